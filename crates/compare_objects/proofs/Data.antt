@@ -13,7 +13,7 @@ use Rattle.word.specs.Result.{Result}
 use Rattle.ty.specs.Types.{Table}
 use Rattle.trace.specs.Places.{Places, shown_places}
 use Rattle.trace.specs.Inner.Emit.{Answer, Raw, raw_of, compared, handing_at, told}
-use Rattle.trace.proofs.BesideLaws.{beside-told, beside_none}
+use Rattle.traced.proofs.BesideLaws.{beside-told, beside_none}
 use Rattle.alike.specs.Order.{order}
 use Rattle.alike.specs.Inner.ByTurns.{◌and_then◌}
 use Rattle.alike.specs.Inner.Beside.{Beside, beside_first, beside_all}

@@ -42,7 +42,7 @@ fn compare_data(
     let from = start.min(data.len());
     // Kept: what a trace finds beside goes to its two first marks, which it takes as a slice.
     let mut found = [0u8; 2];
-    let r = trace::trace_beside(
+    let r = traced::trace_beside(
         table, here, x.kind, x.t as u64, start, data, there, other, &mut found, work, 0,
     );
     let Some(done) = r else {

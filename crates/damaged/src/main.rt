@@ -65,7 +65,7 @@ fn read_page(text: &[u8]) -> Seen {
     let mut pool = [7u8; 8];
     let mut marks = [7u8; 8];
     let mut work = [7u64; 8];
-    let done = yexwalu::page::read_page(
+    let done = page_door::yexwalu_read_page(
         sevens(),
         &mut narrow,
         &mut wide,

@@ -5,7 +5,7 @@ use Rattle.word.specs.Result.{Result, ok, ◌>>=◌}
 use Rattle.text.specs.Text.{decimal, line}
 use Rattle.heap.specs.State.{Slot, live}
 use Rattle.pages.specs.Page.{read_page}
-use Rattle.page_check.specs.Sections.{verdict}
+use Rattle.page_check.specs.Verdict.{verdict}
 use Rattle.figures.specs.declared.Figures.{Figures}
 
 -- without objects

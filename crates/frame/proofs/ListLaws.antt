@@ -13,7 +13,7 @@ use Rattle.refusal.specs.declared.Refusal.TheVariants.{Untraceable as Failed, Sh
 use Rattle.trace.specs.Inner.Emit.{Answer, Raw, raw_of, Into, into, emit_all, emitting, told}
 use Rattle.trace.specs.declared.Sink.TheVariants.{Check, List as ToList}
 use Rattle.trace.proofs.Emits.{ok-inj, told-traced, told-untraceable}
-use Rattle.trace.proofs.ListLaws.{checked-short, checked-fits, listed}
+use Rattle.traced.proofs.ListLaws.{checked-short, checked-fits, listed}
 use Rattle.frame.specs.Listing.{roots_listing, Frames}
 
 -- what a trace that succeeds or fails says of the words

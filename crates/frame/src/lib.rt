@@ -62,7 +62,7 @@ fn trace_entry(
     }
     if of == 2 {
         if want == 0 {
-            return trace::trace_value(table, here, t, &memory[offset..], sink, marks, to, n);
+            return traced::trace_value(table, here, t, &memory[offset..], sink, marks, to, n);
         }
         return Some(n);
     }

@@ -12,7 +12,8 @@ use Rattle.refusal.specs.declared.Refusal.TheVariants.{TypeTable}
 use Rattle.ty.specs.Types.{Table}
 use Rattle.ty.specs.View.{table_of}
 use Rattle.ty.specs.Check.{table_good}
-use Rattle.trace.specs.Listing.{Lists, written_to}
+use Rattle.traced.specs.Listing.{written_to}
+use Rattle.traced.specs.Inner.Lists.{Lists}
 use Rattle.heap.specs.Lent.{Lent, view}
 use Rattle.heap.specs.Inner.Seen.{seen, state}
 use Rattle.heap.specs.declared.view.View.{View}

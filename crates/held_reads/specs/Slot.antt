@@ -4,7 +4,7 @@ use Rattle.refusal.specs.Told.{nothing}
 use Rattle.refusal.specs.declared.Refusal.TheVariants.{TypeTable}
 use Rattle.ty.specs.View.{table_of}
 use Rattle.ty.specs.Check.{table_good}
-use Rattle.trace.specs.Listing.{written_to}
+use Rattle.traced.specs.Listing.{written_to}
 use Rattle.heap.specs.Lent.{Lent, view}
 use Rattle.door.specs.HeapCalls.{Test, test, admitted, whether, Asked, asking}
 use Rattle.slot_door.specs.SlotHandles.{slot_handles}

@@ -11,7 +11,8 @@ use Rattle.refusal.specs.Told.{told, answered, here, nothing}
 use Rattle.refusal.specs.declared.Answer.{Answer}
 use Rattle.refusal.specs.Told.{Reply}
 use Rattle.layout.specs.Offsets.{Values, written_by}
-use Rattle.trace.specs.Listing.{Lists, written_to}
+use Rattle.traced.specs.Listing.{written_to}
+use Rattle.traced.specs.Inner.Lists.{Lists}
 use Rattle.held_types.specs.Laid.{laid}
 use Rattle.held_types.specs.declared.Laying.{Laying}
 

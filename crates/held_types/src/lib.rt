@@ -9,7 +9,7 @@ ghost use Rattle.ty.specs.View.{types_of, table_of};
 ghost use Rattle.ty.specs.Walks.{has_handles};
 ghost use Rattle.layout.specs.Offsets.{told, offsets_of, layout_call, written_by};
 ghost use Rattle.trace.specs.Places.{object_handles, value_handles};
-ghost use Rattle.trace.specs.Listing.{listing, written_to};
+ghost use Rattle.traced.specs.Listing.{listing, written_to};
 ghost use Rattle.held_types.specs.Laid.{laid};
 
 use refusal::{Answer, Refusal};
@@ -114,7 +114,7 @@ pub fn yexwalu_held_object_handles(
         consts,
         bytes,
     };
-    Answer::from(trace::list_object(&table, t, data, out))
+    Answer::from(traced::list_object(&table, t, data, out))
 }
 
 // The handles of a value of type t that needs no descriptor. First: how many.
@@ -139,5 +139,5 @@ pub fn yexwalu_held_value_handles(
         consts,
         bytes,
     };
-    Answer::from(trace::list_value(&table, t, data, out))
+    Answer::from(traced::list_value(&table, t, data, out))
 }

@@ -47,7 +47,7 @@ impl Queue<'_> {
         let t = narrow[2 * s + i] as u64;
         let start = objects.wide[i] as usize;
         let data = objects.data_of(i);
-        self.n = trace::trace_slot(
+        self.n = traced::trace_slot(
             table,
             here,
             kind,

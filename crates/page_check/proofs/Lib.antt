@@ -1,12 +1,4 @@
-pub mod Reading
-pub mod Counting
-pub mod Filling
-pub mod Columned
-pub mod Once
-pub mod Lists
-pub mod Names
-pub mod Heads
-pub mod Assembly
+pub mod Marking
+pub mod Rules
 pub mod Verdict
 pub mod Unlisted
-pub mod Parts

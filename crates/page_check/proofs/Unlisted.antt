@@ -6,8 +6,7 @@ use Prim.Native.Nat.{ℕ, ◌+◌}
 use native.Mathlib.Omega.{arith}
 use lib.ListN.{length}
 use Rattle.heap.specs.State.{Slot, State, times}
-use Rattle.page_check.specs.Inner.Partition.{right, each}
-use Rattle.page_check.specs.Sections.{listed, obeyed}
+use Rattle.page_check.specs.Inner.Rules.{right, each, listed, obeyed}
 use Rattle.page_check.specs.declared.Rule.{Rule}
 
 module _ (r : Rule) (lax : (g k : ℕ) → right r g k 0 ≡ true) where

@@ -22,9 +22,12 @@ use Rattle.pages.specs.Page.{read_page, moved, sound_before}
 use Rattle.pages.proofs.Moving.{moved-sound}
 use Rattle.heap.proofs.Counting.{times-append, times-member}
 use Rattle.heap.proofs.Testing.{parts-tested, all-times}
-use Rattle.page_check.specs.Inner.Partition.{expected, right, each}
-use Rattle.page_check.specs.Sections.{heap_in, form_in, brought_in, sound_but, listed, obeyed, parted, Sectioned, Parsing, verdict, Accepted}
-use Rattle.page_check.specs.declared.Sections.{Sections}
+use Rattle.page_check.specs.Inner.Rules.{expected, right, each, listed, obeyed, parted}
+use Rattle.page_parser.specs.Contents.{heap_in, form_in}
+use Rattle.page_parser.specs.Inner.Sections.{brought_in, sound_but, Sectioned, Parsing}
+use Rattle.page_check.specs.Verdict.{verdict}
+use Rattle.page_check.specs.Inner.Accepting.{Accepted}
+use Rattle.page_parser.specs.declared.Sections.{Sections}
 use Rattle.page_check.specs.declared.Rule.{Rule}
 use Rattle.page_check.specs.declared.Rule.TheVariants.{Once, Young, Worn}
 

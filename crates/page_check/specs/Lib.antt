@@ -1,2 +1,2 @@
-pub mod Sections
+pub mod Verdict
 pub mod Inner

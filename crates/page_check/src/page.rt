@@ -1,11 +1,14 @@
 // A text that is a page, with what the first pass found in it: is each of its slots where it belongs?
 ghost use Rattle.std.specs.Prelude.{ℕ, ◌≡◌, ◌*◌, ◌≤◌, ◌++◌, length, true, false, MatchOption};
-ghost use Rattle.page_check.specs.Inner.Partition.{Marked, right, each};
-ghost use Rattle.page_check.specs.Inner.Filling.{slots_at, SlotsParsed, RunChecked};
-ghost use Rattle.page_check.specs.Sections.{heap_in, form_in, listed, obeyed, parted, Sectioned};
+ghost use Rattle.page_parser.specs.Contents.{heap_in, form_in};
+ghost use Rattle.page_parser.specs.Inner.Slots.{slots_at, SlotsParsed};
+ghost use Rattle.page_parser.specs.Inner.Sections.{Sectioned};
+ghost use Rattle.page_check.specs.Inner.Marks.{Marked};
+ghost use Rattle.page_check.specs.Inner.Rules.{right, each, listed, obeyed, parted, RunChecked};
 
-use crate::lines::Lines;
-use crate::{Rule, Sections};
+use crate::Rule;
+use page_parser::Sections;
+use page_parser::lines::Lines;
 
 #[derive(Clone, Copy)]
 pub struct Page<'a> {

@@ -12,7 +12,7 @@ use Rattle.word.proofs.PutLaws.{put-put}
 use Rattle.heap.specs.State.{Slot, data_of, data_size}
 use Rattle.heap.specs.Packing.{flat, ends}
 use Rattle.pages.proofs.Writing.{blank}
-use Rattle.page_check.proofs.Reading.{data-cons}
+use Rattle.page_parser.proofs.Reading.{data-cons}
 
 -- COLUMNS
 

@@ -13,9 +13,9 @@ use Rattle.text.specs.Inner.Answer.{value_answer}
 use Rattle.text.specs.Put.{put_text}
 use Rattle.std.specs.Prelude.{Option, Some, None}
 use Rattle.text.proofs.Putting.{put-nothing}
-use Rattle.page_check.specs.Inner.Partition.{values_at, past_values, ValuesParsed}
-use Rattle.page_check.proofs.Lists.{value_found, value_none}
-use Rattle.page_check.proofs.Filling.{read_next, read_some, read-end}
+use Rattle.page_parser.specs.Inner.Values.{values_at, past_values, ValuesParsed}
+use Rattle.page_parser.proofs.Lists.{value_found, value_none}
+use Rattle.page_parser.proofs.Remaining.{read_next, read_some, read-end}
 use Rattle.page_reader.proofs.Filled.{col-next}
 
 -- i of the values are in the column, and the others stand in the text from k on

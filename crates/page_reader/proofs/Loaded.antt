@@ -30,13 +30,15 @@ use Rattle.pages.specs.Form.{Form, writes_width}
 use Rattle.pages.specs.Page.{out_of_column, read_page, moved, brought}
 use Rattle.pages.proofs.Writing.{back-length}
 use Rattle.pages.proofs.Bound.{parts, dead-length, sealed-length}
-use Rattle.page_check.proofs.Columned.{same_size}
-use Rattle.page_check.specs.Inner.Filling.{slots_at}
-use Rattle.page_check.specs.Inner.Partition.{values_at}
-use Rattle.page_check.specs.Sections.{heap_in, form_in, brought_in, Sectioned, Accepted, verdict}
-use Rattle.page_check.specs.Inner.Accepting.{Checking}
+use Rattle.page_parser.proofs.Columned.{same_size}
+use Rattle.page_parser.specs.Inner.Slots.{slots_at}
+use Rattle.page_parser.specs.Inner.Values.{values_at}
+use Rattle.page_parser.specs.Contents.{heap_in, form_in}
+use Rattle.page_parser.specs.Inner.Sections.{brought_in, Sectioned}
+use Rattle.page_check.specs.Inner.Accepting.{Accepted, Checking}
+use Rattle.page_check.specs.Verdict.{verdict}
 use Rattle.page_check.specs.declared.page.Page.{Page}
-use Rattle.page_check.specs.declared.Sections.{Sections}
+use Rattle.page_parser.specs.declared.Sections.{Sections}
 use Rattle.std.specs.Prelude as code
 use Rattle.std.specs.Prelude.{Ok, Err}
 use Rattle.page_reader.specs.Inner.Columns.{worn_in, stay_free, retire, ages, Below, with_numbers, with_parted, with_lists, NumbersFilled, FreeParted, ListsFilled, Roomy}

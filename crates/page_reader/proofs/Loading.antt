@@ -15,8 +15,9 @@ use Rattle.heap.specs.declared.Heap.{Heap}
 use Rattle.heap.proofs.Packing.{drop-replicate}
 use Rattle.pages.specs.Page.{Unsaved, moved}
 use Rattle.pages.proofs.Laws.{written_read}
-use Rattle.page_check.specs.Sections.{heap_in, form_in, brought_in, Sectioned}
-use Rattle.page_check.specs.declared.Sections.{Sections}
+use Rattle.page_parser.specs.Contents.{heap_in, form_in}
+use Rattle.page_parser.specs.Inner.Sections.{brought_in, Sectioned}
+use Rattle.page_parser.specs.declared.Sections.{Sections}
 
 -- zeros filled in from the front
 pub padded : (n : ℕ) (a xs : List ℕ) → a ≡ replicate n 0 → put_text a 0 xs ≡ pad n xs

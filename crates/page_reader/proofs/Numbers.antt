@@ -21,11 +21,11 @@ use Rattle.heap.specs.declared.Heap.{Heap}
 use Rattle.heap.proofs.Runs.{recount, with-generation, with-kind, with-type, with-end, with-writes, set-generation, set-kind, set-type, set-start, set-end, set-writes}
 use Rattle.pages.specs.Page.{slot_format}
 use Rattle.pages.proofs.Writing.{blank}
-use Rattle.page_check.specs.Inner.Filling.{slots_at, past_slots, SlotsParsed}
-use Rattle.page_check.specs.Inner.Answer.{slot_answer}
-use Rattle.page_check.specs.declared.SlotRead.{SlotRead}
-use Rattle.page_check.proofs.Reading.{Found, line-found, line-lost}
-use Rattle.page_check.proofs.Filling.{read_next, read_some, read-end}
+use Rattle.page_parser.specs.Inner.Slots.{slots_at, past_slots, SlotsParsed}
+use Rattle.page_parser.specs.Inner.Answer.{slot_answer}
+use Rattle.page_parser.specs.declared.SlotRead.{SlotRead}
+use Rattle.page_parser.proofs.Reading.{Found, line-found, line-lost}
+use Rattle.page_parser.proofs.Remaining.{read_next, read_some, read-end}
 use Rattle.page_reader.specs.Inner.Columns.{with_numbers, NumbersFilled}
 use Rattle.page_reader.proofs.Filled.{column-next, end-next, data-next}
 

@@ -24,9 +24,9 @@ use Rattle.heap.specs.Lent.{Lent, columns, cut}
 use Rattle.heap.specs.declared.Heap.{Heap}
 use Rattle.heap.proofs.Recycled.{filter-append}
 use Rattle.heap.proofs.Runs.{recount, set-free, set-retired}
-use Rattle.page_check.specs.Inner.Partition.{values_at, past_values, ValuesParsed}
-use Rattle.page_check.proofs.Lists.{value_found, value_none}
-use Rattle.page_check.proofs.Filling.{read_next, read_some, read-end}
+use Rattle.page_parser.specs.Inner.Values.{values_at, past_values, ValuesParsed}
+use Rattle.page_parser.proofs.Lists.{value_found, value_none}
+use Rattle.page_parser.proofs.Remaining.{read_next, read_some, read-end}
 use Rattle.page_reader.specs.Inner.Columns.{worn_in, stay_free, retire, with_parted, Below, PutIn, ages, FreeParted}
 use Rattle.page_reader.proofs.Filled.{col-next}
 

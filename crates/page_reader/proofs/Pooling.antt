@@ -21,12 +21,12 @@ use Rattle.pages.specs.Page.{slot_format, out_of_column}
 use Rattle.pages.specs.Inner.Columns.{field}
 use Rattle.pages.proofs.Laws.{slot-right, slot-prints}
 use Rattle.pages.proofs.Writing.{blank, slot-parts}
-use Rattle.page_check.specs.Inner.Filling.{slots_at, past_slots, SlotsParsed}
-use Rattle.page_check.specs.Inner.Answer.{slot_answer}
-use Rattle.page_check.specs.declared.SlotRead.{SlotRead}
-use Rattle.page_check.proofs.Columned.{same_size}
-use Rattle.page_check.proofs.Reading.{Found, line-found, line-lost}
-use Rattle.page_check.proofs.Filling.{read_next, read_some, read-end}
+use Rattle.page_parser.specs.Inner.Slots.{slots_at, past_slots, SlotsParsed}
+use Rattle.page_parser.specs.Inner.Answer.{slot_answer}
+use Rattle.page_parser.specs.declared.SlotRead.{SlotRead}
+use Rattle.page_parser.proofs.Columned.{same_size}
+use Rattle.page_parser.proofs.Reading.{Found, line-found, line-lost}
+use Rattle.page_parser.proofs.Remaining.{read_next, read_some, read-end}
 use Rattle.page_reader.proofs.Filled.{take_more, data-next}
 
 hex-is : (s : List ℕ) (at : ℕ) (bs rest : List ℕ) → read_hex (drop at s) ≡ give bs rest → hex_at s at ≡ bs

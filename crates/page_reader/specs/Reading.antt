@@ -7,7 +7,8 @@ use Rattle.heap.specs.State.{State}
 use Rattle.heap.specs.Lent.{Lent, stored, slot_count, pool_size}
 use Rattle.pages.specs.Form.{Form, writes_width}
 use Rattle.pages.specs.Page.{read_page}
-use Rattle.page_check.specs.Sections.{form_in, verdict}
+use Rattle.page_parser.specs.Contents.{form_in}
+use Rattle.page_check.specs.Verdict.{verdict}
 
 -- the lengths of what is lent are right (`sizesFit`), said of the runs: S and pool in range, the last run of either list has S entries, and nothing lies past them
 unfoldable pub in_range : Lent → Bool

@@ -8,16 +8,17 @@ ghost use Rattle.pages.specs.Form.{writes_width, from_column};
 ghost use Rattle.pages.specs.Page.{out_of_column};
 ghost use Rattle.heap.specs.State.{data_of, data_size};
 ghost use Rattle.heap.specs.Packing.{flat};
-ghost use Rattle.page_check.specs.Inner.Partition.{values_at, ValuesParsed};
-ghost use Rattle.page_check.specs.Inner.Filling.{slots_at};
+ghost use Rattle.page_parser.specs.Inner.Values.{values_at, ValuesParsed};
+ghost use Rattle.page_parser.specs.Inner.Slots.{slots_at};
 ghost use Rattle.heap.specs.Lent.{lent, header_of, stored};
-ghost use Rattle.page_check.specs.Sections.{heap_in, brought_in};
+ghost use Rattle.page_parser.specs.Contents.{heap_in};
+ghost use Rattle.page_parser.specs.Inner.Sections.{brought_in};
 ghost use Rattle.page_reader.specs.Inner.Columns.{NumbersFilled, Below, PutIn, FreeParted, ListsFilled, Roomy};
 ghost use Rattle.page_reader.specs.Reading.{PageRead};
 
 use heap::{Changed, Heap};
-use page_check::lines::Lines;
 use page_check::page::Page;
+use page_parser::lines::Lines;
 use pages::Listed;
 use text::hex::Hex;
 
@@ -47,7 +48,7 @@ fn fill_slots(lines: Lines, planar: bool, narrow: &mut [u32], wide: &mut [u64], 
     let mut from = 0;
     let mut to = 0;
     for i in 0..count {
-        let Some(x) = page_check::get_slot(s, k, true) else {
+        let Some(x) = page_parser::get_slot(s, k, true) else {
             return;
         };
         narrow[i] = x.generation as u32;

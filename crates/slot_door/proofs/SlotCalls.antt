@@ -24,7 +24,8 @@ use Rattle.heap.specs.Lent.{Lent, view}
 use Rattle.heap.specs.Inner.Seen.{seen, state}
 use Rattle.heap.specs.declared.view.View.{View}
 use Rattle.trace.specs.Places.{handles_of}
-use Rattle.trace.specs.Listing.{listing, Lists, written_to}
+use Rattle.traced.specs.Listing.{listing, written_to}
+use Rattle.traced.specs.Inner.Lists.{Lists}
 use Rattle.reach.specs.Reach.{Graph}
 use Rattle.collection.specs.Shown.{shown}
 use Rattle.collection.specs.Collected.{graph}

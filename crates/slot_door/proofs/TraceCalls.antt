@@ -27,7 +27,8 @@ use Rattle.heap.specs.State.{Slot, no_slot, slot_at}
 use Rattle.heap.specs.Lent.{Lent, slot_in, view}
 use Rattle.heap.specs.Inner.Seen.{seen, state}
 use Rattle.heap.specs.declared.view.View.{View}
-use Rattle.trace.specs.Listing.{listing, Lists}
+use Rattle.traced.specs.Listing.{listing}
+use Rattle.traced.specs.Inner.Lists.{Lists}
 use Rattle.collection.specs.Shown.{shown}
 use Rattle.door.specs.HeapCalls.{Entered, asked, asked_of, scratch_after, zeros}
 use Rattle.door.specs.HeapCalls.{Entry}

@@ -6,7 +6,7 @@ use Rattle.refusal.specs.declared.Refusal.TheVariants.{TypeTable}
 use Rattle.ty.specs.Types.{Table}
 use Rattle.ty.specs.View.{table_of}
 use Rattle.ty.specs.Check.{table_good}
-use Rattle.trace.specs.Listing.{listing, written_to}
+use Rattle.traced.specs.Listing.{listing, written_to}
 use Rattle.heap.specs.State.{State, slot_at, live}
 use Rattle.heap.specs.Lent.{Lent, view}
 use Rattle.collection.specs.Shown.{shown}

@@ -4,7 +4,8 @@
 
 ghost use Rattle.std.specs.Prelude.{◌≡◌, [], ◌∷◌, ◌<◌, length, IfOk};
 ghost use Rattle.ty.specs.View.{lent as table_in};
-ghost use Rattle.trace.specs.Listing.{listing, Lists};
+ghost use Rattle.traced.specs.Listing.{listing};
+ghost use Rattle.traced.specs.Inner.Lists.{Lists};
 ghost use Rattle.heap.specs.Lent.{lent};
 ghost use Rattle.heap.specs.Inner.Seen.{seen, state};
 ghost use Rattle.door.specs.HeapCalls.{Entered, entry_of, asked};
@@ -53,7 +54,7 @@ fn list_at(table: &Table, objects: Objects, i: usize, out: &mut [u64]) -> Reply
     let kind = narrow[s + i];
     let t = narrow[2 * s + i] as u64;
     let start = objects.wide[i] as usize;
-    trace::list_slot(table, kind, t, start, objects.data_of(i), out)
+    traced::list_slot(table, kind, t, start, objects.data_of(i), out)
 }
 
 // The handles that slot i shows: 9, 13, 7.

@@ -12,7 +12,7 @@ use Rattle.text.specs.Format.{Format, Right, read_all}
 use Rattle.text.proofs.Laws.{none-not-some, some_inj}
 use Rattle.text.proofs.Getting.{suffix}
 use Rattle.std.specs.Prelude.{Option, Some, None}
-use Rattle.page_check.proofs.Reading.{all_none, all-some, all_done}
+use Rattle.page_parser.proofs.Reading.{all_none, all-some, all_done}
 use Rattle.tables.specs.Inner.Answer.{ending, GotAll, Got}
 
 contradiction : ◌≡◌ {A = ℕ} 0 1 → ⊥

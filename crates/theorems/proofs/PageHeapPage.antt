@@ -16,8 +16,8 @@ use Rattle.heap.proofs.Storing.{view-stored}
 use Rattle.pages.specs.Form.{Form, written}
 use Rattle.pages.specs.Page.{page_text, brought}
 use Rattle.pages.proofs.Laws as pages
-use Rattle.page_check.specs.Sections.{form_in, heap_in}
-use Rattle.page_check.proofs.Assembly.{form-is, heap_is}
+use Rattle.page_parser.specs.Contents.{form_in, heap_in}
+use Rattle.page_parser.proofs.Assembly.{form-is, heap_is}
 use Rattle.page_reader.specs.Reading.{bits_met, names_met, read_into}
 use Rattle.door.specs.HeapCalls.{enough}
 use Rattle.theorems.specs.PageCalls.{Writes, Scratch, WroteText, done, met}

@@ -25,8 +25,9 @@ use Rattle.heap.proofs.Testing.{stored-formed, formed-tested}
 use Rattle.pages.specs.Form.{Form}
 use Rattle.pages.specs.Page.{page_text, Within, read_page, moved, brought}
 use Rattle.pages.proofs.Laws.{read-written}
-use Rattle.page_check.specs.Sections.{form_in, verdict}
-use Rattle.page_check.proofs.Assembly.{form-is}
+use Rattle.page_parser.specs.Contents.{form_in}
+use Rattle.page_check.specs.Verdict.{verdict}
+use Rattle.page_parser.proofs.Assembly.{form-is}
 use Rattle.page_reader.specs.Reading.{bits_met, names_met, in_range, Left, left, read_into}
 use Rattle.page_reader.proofs.Loaded.{not-ok, passed, few-numbers}
 use Rattle.door.specs.HeapCalls.{Outcome, enough}

@@ -8,7 +8,7 @@ use Rattle.heap.specs.Lent.{Lent, view}
 use Rattle.heap.specs.WellFormed.{sound}
 use Rattle.pages.specs.Form.{Form, written, earlier}
 use Rattle.pages.specs.Page.{page_text, Within, read_page, brought}
-use Rattle.page_check.specs.Sections.{form_in, heap_in}
+use Rattle.page_parser.specs.Contents.{form_in, heap_in}
 use Rattle.theorems.specs.PageCalls.{Writes, Reads, Scratch, Room, TookIn, WroteText, met}
 use Rattle.theorems.specs.PageHeapPage.{TextRead}
 use Rattle.theorems.specs.EarlierPage.{earlier_read, earlier_into}

@@ -1,4 +1,4 @@
--- Bytes before start are never traced: of 39 bytes of a Handles object that are visible from byte 8 on, none is a handle. Case (k) itself stands in crate cases.
+-- Bytes before start are never traced: of 39 bytes of a Handles object that are visible from byte 8 on, none is a handle. Case (k) itself stands in the proved table.
 -- Assumes nothing.
 use mathlib.Core.Path.{◌≡◌, refl}
 use mathlib.Core.Option.{some}

@@ -6,7 +6,4 @@ pub mod TraceLaws
 pub mod Vacant
 pub mod Levels
 pub mod Objects
-pub mod Slots
-pub mod ListLaws
-pub mod BesideLaws
 pub mod Cases

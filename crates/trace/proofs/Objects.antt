@@ -1,9 +1,9 @@
--- The ways out of a trace of a value, an object and a slot of a heap, one law for each. Assumes nothing.
+-- The ways out of a trace of an object and of visible data, one law for each. Assumes nothing.
 use Prim.Native.Nat.{ℕ, suc, ◌+◌, ◌-◌, ◌*◌, ◌/◌, ◌≤◌, ◌<◌}
-use mathlib.Core.Path.{◌≡◌, refl, sym, ap, ◌∙◌}
+use mathlib.Core.Path.{◌≡◌, refl, ap, ◌∙◌}
 use mathlib.Core.Bool.{Bool, true, false}
-use mathlib.Core.List.{List, []}
-use lib.ListN.{length, take, drop, length-drop}
+use mathlib.Core.List.{List}
+use lib.ListN.{length, take}
 use borrow.Author.Tests.{le-leb, lt-leb, eq-eqb, ne_eqb}
 use native.Mathlib.Omega.{arith}
 use Rattle.ty.specs.Words.{Word}
@@ -13,21 +13,9 @@ use Rattle.ty.specs.Types.{Table}
 use Rattle.ty.specs.Walks.{desc_size, has_handles}
 use Rattle.ty.specs.declared.Table.{Table as Lent}
 use Rattle.ty.specs.View.{lent, types_of}
-use Rattle.word.proofs.ListLaws.{rest}
-use Rattle.trace.specs.Places.{places_at, object_places, rising, handles_places, kind_places, shown_places, value_handles, object_handles}
-use Rattle.trace.specs.Inner.Emit.{Answer, Raw, Into, emitting, Aim, words_to, compared, handed, handed_all, handing_at, told}
-use Rattle.trace.proofs.Emits.{emit-none, emit-nil, words-at}
-
--- ---- a part of the data, and as much of the data beside
-
-pub rest-even : (start : ℕ) (v other : List ℕ) → length v ≡ length other → length (take (length other - start) (drop start other)) ≡ length (take (length v - start) (drop start v))
-rest-even start v other e = ap length (rest start other) ∙ length-drop start other ∙ ap (λ (n : ℕ). n - start) (sym e) ∙ sym (length-drop start v) ∙ sym (ap length (rest start v))
-
--- ---- a value
-
-pub value-whole : (T : Table) (t : ℕ) (v : List ℕ) (k : Into) (s : Raw) (r : Answer) (ms to : List ℕ) → told r ms to ≡ handing_at (words_to k) v s (places_at T (length v) 65 t [] 0) → told r ms to ≡ emitting k s (value_handles T t v)
-unfolding value_handles
-value-whole T t v k s r ms to er = er ∙ words-at k v s (places_at T (length v) 65 t [] 0)
+use Rattle.trace.specs.Places.{places_at, object_places, rising, handles_places, kind_places}
+use Rattle.trace.specs.Inner.Emit.{Answer, Raw, Aim, handed, handed_all, handing_at, told}
+use Rattle.trace.proofs.Emits.{emit-none, emit-nil}
 
 -- ---- an object
 
@@ -48,10 +36,6 @@ module _ (T : Lent) (t : ℕ) (v : List ℕ) (k : Aim) (s : Raw) (x : Bool) (ex 
     pub object-whole : (n : ℕ) → z ≡ Some n → n ≤ length v → (r : Answer) (ms to : List ℕ) → told r ms to ≡ handing_at k v s (places_at (lent T) (length v) 65 t (take n v) n) → told r ms to ≡ handing_at k v s (object_places (lent T) t v)
     unfolding object_places
     object-whole n h l r ms to er = rw (← ex, o, ← ez, h, le-leb n (length v) l) er
-
-pub object-words : (T : Table) (t : ℕ) (v : List ℕ) (k : Into) (s : Raw) (r : Answer) (ms to : List ℕ) → told r ms to ≡ handing_at (words_to k) v s (object_places T t v) → told r ms to ≡ emitting k s (object_handles T t v)
-unfolding object_handles
-object-words T t v k s r ms to er = er ∙ words-at k v s (object_places T t v)
 
 -- ---- a Handles object of c handles: those from the i-th on are still to come
 
@@ -88,19 +72,3 @@ module _ (T : Table) (kind t : ℕ) (v : List ℕ) (k : Aim) (s : Raw) where
     pub kind-bytes : (kind ≡ 3 → ⊥) → ok s ≡ handing_at k v s (kind_places T kind t v)
     unfolding kind_places
     kind-bytes n3 = emit-nil k v s _ (rw (ne_eqb kind 1 n1, ne_eqb kind 3 n3) refl)
-
--- ---- a slot
-
-module _ (T : Table) (kind t start : ℕ) (v : List ℕ) (s : Raw) where
-  pub shown-hidden : (k : Aim) → length v < start → ok s ≡ handing_at k (drop start v) s (shown_places T kind t start v)
-  unfolding shown_places
-  shown-hidden k h = emit-nil k (drop start v) s _ (rw (lt-leb start (length v) h) refl)
-
-  pub shown_rest : (R R' : ℕ → Result ℕ) (turns other : List ℕ) → start ≤ length v → (r : Answer) (ms to : List ℕ)
-      → told r ms to ≡ handing_at (compared R R' turns (take (length other - start) (drop start other))) (take (length v - start) (drop start v)) s (kind_places T kind t (take (length v - start) (drop start v)))
-      → told r ms to ≡ handing_at (compared R R' turns (drop start other)) (drop start v) s (shown_places T kind t start v)
-  unfolding shown_places
-  shown_rest R R' turns other l r ms to er =
-      rw (le-leb start (length v) l) (er
-      ∙ ap (λ (x : List ℕ). handing_at (compared R R' turns x) (take (length v - start) (drop start v)) s (kind_places T kind t (take (length v - start) (drop start v)))) (rest start other)
-      ∙ ap (λ (x : List ℕ). handing_at (compared R R' turns (drop start other)) x s (kind_places T kind t x)) (rest start v))

@@ -473,7 +473,7 @@ impl Tracer<'_, '_, '_> {
     }
 
     // The handles of a Handles object's visible data: at 24, 32, .. while eight bytes fit.
-    // Kept: trace_handles stands beside it, so that a collection makes no tracer for such an object.
+    // Kept: trace_handles of crate traced stands beside it, so that a collection makes no tracer for such an object.
     fn hand_handles(&self, marks: &mut [u8], to: &mut [u64], n: usize) -> usize
         ensures { raw_of marks.new to.new result ≡
             handed_all (aimed self.now) self.now.object.now (raw_of marks.old to.old n)

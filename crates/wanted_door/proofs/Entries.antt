@@ -15,7 +15,8 @@ use Rattle.std.specs.Prelude.{Err}
 use Rattle.ty.specs.Check.{table_good}
 use Rattle.heap.specs.Lent.{Lent, view, slot_count}
 use Rattle.heap_calls.specs.Pins.{rising}
-use Rattle.trace.specs.Listing.{Lists, written_to}
+use Rattle.traced.specs.Listing.{written_to}
+use Rattle.traced.specs.Inner.Lists.{Lists}
 use Rattle.door.specs.HeapCalls.{test, enough, heap_tests, zeros, Entered, asked, asked_of}
 use Rattle.door.specs.HeapCalls.{Entry}
 use Rattle.door.specs.HeapCalls.{ready}

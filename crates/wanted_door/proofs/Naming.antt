@@ -22,7 +22,7 @@ use Rattle.ty.specs.Types.{Table}
 use Rattle.heap.specs.declared.Heap.{Heap}
 use Rattle.heap.specs.Lent.{Lent, lent, view, slot_count, pool_size}
 use Rattle.heap.proofs.Testing.{formed-tested}
-use Rattle.trace.specs.Listing.{Lists}
+use Rattle.traced.specs.Inner.Lists.{Lists}
 use Rattle.reach.specs.Reach.{Graph, Starts, ◌∈◌}
 use Rattle.reach.proofs.Grown.{∈-index}
 use Rattle.collection.specs.Shown.{shown}

@@ -10,7 +10,7 @@ use Rattle.std.specs.Prelude.{Ok, Err}
 use Rattle.ty.specs.Types.{Table}
 use Rattle.ty.specs.View.{table_of}
 use Rattle.ty.specs.Check.{table_good}
-use Rattle.trace.specs.Listing.{written_to}
+use Rattle.traced.specs.Listing.{written_to}
 use Rattle.heap.specs.State.{State}
 use Rattle.heap.specs.Lent.{Lent, view}
 use Rattle.heap_calls.specs.Pins.{rising}

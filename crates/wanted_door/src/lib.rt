@@ -6,7 +6,7 @@ ghost use Rattle.std.specs.Prelude.{◌≡◌, [], ◌∷◌, map, length, IfOk}
 ghost use Rattle.ty.specs.View.{lent as table_in};
 ghost use Rattle.heap.specs.Lent.{lent};
 ghost use Rattle.heap.specs.Inner.Seen.{seen, state};
-ghost use Rattle.trace.specs.Listing.{Lists};
+ghost use Rattle.traced.specs.Inner.Lists.{Lists};
 ghost use Rattle.door.specs.HeapCalls.{Entered, entry_of, asked};
 ghost use Rattle.mark.specs.Inner.Scratch.{high};
 ghost use Rattle.wanted.specs.Search.{noted};

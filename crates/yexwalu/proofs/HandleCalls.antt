@@ -9,7 +9,8 @@ use Rattle.refusal.specs.Told.{told, answered, refused_by, nothing}
 use Rattle.refusal.specs.declared.Answer.{Answer}
 use Rattle.refusal.specs.Told.{Reply}
 use Rattle.ty.specs.Check.{table_good}
-use Rattle.trace.specs.Listing.{Lists, written_to}
+use Rattle.traced.specs.Listing.{written_to}
+use Rattle.traced.specs.Inner.Lists.{Lists}
 use Rattle.frame.specs.Listing.{Roots, Frames, handles_to, addresses_to}
 use Rattle.yexwalu.specs.Table.{on_table}
 use Rattle.yexwalu.specs.Handles.{HandlesCall, RootsCall}

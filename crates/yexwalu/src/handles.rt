@@ -2,7 +2,7 @@
 ghost use Rattle.std.specs.Prelude.{length};
 ghost use Rattle.ty.specs.View.{table_of};
 ghost use Rattle.trace.specs.Places.{value_handles, object_handles};
-ghost use Rattle.trace.specs.Listing.{listing};
+ghost use Rattle.traced.specs.Listing.{listing};
 ghost use Rattle.frame.specs.Frame.{frame_handles, frame_addresses};
 ghost use Rattle.frame.specs.Listing.{roots_listing};
 ghost use Rattle.yexwalu.specs.Table.{on_table};
@@ -39,7 +39,7 @@ pub fn yexwalu_object_handles(
     if !table.check_table() {
         return Answer::from(Err(Refusal::TypeTable));
     }
-    Answer::from(trace::list_object(&table, t, data, out))
+    Answer::from(traced::list_object(&table, t, data, out))
 }
 
 // The handles of a value of type t that needs no descriptor. first: how many.
@@ -67,7 +67,7 @@ pub fn yexwalu_value_handles(
     if !table.check_table() {
         return Answer::from(Err(Refusal::TypeTable));
     }
-    Answer::from(trace::list_value(&table, t, data, out))
+    Answer::from(traced::list_value(&table, t, data, out))
 }
 
 // The handles and the addresses of a frame's memory by its map, three words an entry (offset, kind, type), each into a lent list of its own. first: how many

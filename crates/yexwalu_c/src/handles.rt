@@ -2,7 +2,7 @@
 ghost use Rattle.std.specs.Prelude.{length};
 ghost use Rattle.ty.specs.View.{table_of};
 ghost use Rattle.trace.specs.Places.{value_handles, object_handles};
-ghost use Rattle.trace.specs.Listing.{listing};
+ghost use Rattle.traced.specs.Listing.{listing};
 ghost use Rattle.frame.specs.Frame.{frame_handles, frame_addresses};
 ghost use Rattle.frame.specs.Listing.{roots_listing};
 ghost use Rattle.yexwalu.specs.Table.{on_table};

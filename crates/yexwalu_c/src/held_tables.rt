@@ -6,7 +6,7 @@ ghost use Rattle.ty.specs.View.{types_of, table_of};
 ghost use Rattle.ty.specs.Walks.{has_handles};
 ghost use Rattle.layout.specs.Offsets.{offsets_of, layout_call, written_by};
 ghost use Rattle.trace.specs.Places.{object_handles, value_handles};
-ghost use Rattle.trace.specs.Listing.{listing, written_to};
+ghost use Rattle.traced.specs.Listing.{listing, written_to};
 ghost use Rattle.held_types.specs.Laid.{laid};
 
 use held_types::Laying;

@@ -1,6 +1,7 @@
-use Rattle.page_check.proofs.Filling.{read_next, read_some, read-end, read-rest, agree-next, agree-done}
-use Rattle.page_check.proofs.Reading.{line-found, line-lost}
-use Rattle.page_check.specs.Inner.Filling.{slots_at}
+use Rattle.page_parser.proofs.Remaining.{read_next, read_some, read-end, read-rest}
+use Rattle.page_check.proofs.Rules.{agree-next, agree-done}
+use Rattle.page_parser.proofs.Reading.{line-found, line-lost}
+use Rattle.page_parser.specs.Inner.Slots.{slots_at}
 use Rattle.pages.proofs.Writing.{blank}
 use Rattle.pages.specs.Page.{slot_format}
 use Rattle.heap.specs.State.{Slot, bit}

@@ -1,5 +1,5 @@
-use Rattle.page_check.specs.Inner.Partition.{agree}
-use Rattle.page_check.specs.Inner.Filling.{slots_at}
+use Rattle.page_check.specs.Inner.Rules.{agree}
+use Rattle.page_parser.specs.Inner.Slots.{slots_at}
 use Rattle.pages.specs.Page.{slot_format}
 use Rattle.text.specs.Format.{read_all}
 use Rattle.text.specs.Text.{give}

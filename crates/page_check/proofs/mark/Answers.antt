@@ -1,5 +1,7 @@
-use Rattle.page_check.proofs.Counting.{mark-nothing, mark-next, mark-stop, mark-all, next-value, not_none, done-length, line-value, line-none}
-use Rattle.page_check.specs.Inner.Partition.{values_at}
+use Rattle.page_check.proofs.Marking.{mark-nothing, mark-next, mark-stop, mark-all}
+use Rattle.page_parser.proofs.Lists.{value_found, value_none}
+use Rattle.page_parser.proofs.Remaining.{read_next, read_some, read-end}
+use Rattle.page_parser.specs.Inner.Values.{values_at}
 use Rattle.text.specs.Format.{number, read_all}
 use lib.ListN.{drop}
 use native.Mathlib.Nat.{sub-zero}
@@ -19,7 +21,7 @@ shape_of-row-in_default c = c.loop-i.invariant.2
 
 pub returns-in_default : goal.returns-in_default
 returns-in_default c = let l = values_at 32 c.args.s.now c.args.at c.args.count in
-    absurd (not_none c.args.s.now c.loop-i.k c.loop-i.i c.args.count l c.loop-i.invariant.4.0 c.loop-i-test.true c.loop-i.invariant.4.1 (line-none c.args.s.now c.loop-i.k c.get_field.ensures c.in_default.is))
+    absurd (read_some (number 32 10).read 0 (drop c.loop-i.k c.args.s.now) l c.loop-i.i c.args.count c.loop-i.invariant.4.0 c.loop-i-test.true c.loop-i.invariant.4.1 (value_none c.args.s.now 32 c.loop-i.k c.get_field.ensures c.in_default.is))
 
 pub mark_one-requires : goal.mark_one-requires
 mark_one-requires c = omega (arith, c.requires.at_in_bounds.1, c.loop-i.invariant.2)
@@ -29,19 +31,19 @@ shape_of-row-then-not-mark_one c = c.mark_one.auto.row ∙ c.loop-i.invariant.2
 
 pub returns-then-not-mark_one : goal.returns-then-not-mark_one
 returns-then-not-mark_one c = let l = values_at 32 c.args.s.now c.args.at c.args.count in
-    let v = line-value c.args.s.now c.loop-i.k c.in-Some.v c.in-Some.next c.get_field.ensures c.in-Some.is in
-    let n = next-value c.args.s.now c.loop-i.k c.loop-i.i c.args.count c.in-Some.v c.in-Some.next l c.loop-i.invariant.4.0 c.loop-i-test.true c.loop-i.invariant.4.1 v.0 in
-    mark-stop c.args.row.now c.loop-i.row c.mark_one.new.row c.args.base c.args.m c.in-Some.v c.loop-i.i l c.loop-i.invariant.3 c.mark_one.ensures n.inside n.value c.if-not-mark_one.true
+    let v = value_found c.args.s.now 32 c.loop-i.k c.in-Some.v c.in-Some.next c.get_field.ensures c.in-Some.is in
+    let n = read_next (number 32 10).read 0 (drop c.loop-i.k c.args.s.now) (drop c.in-Some.next c.args.s.now) c.in-Some.v l c.loop-i.i c.args.count c.loop-i.invariant.4.0 c.loop-i-test.true c.loop-i.invariant.4.1 v.0 in
+    mark-stop c.args.row.now c.loop-i.row c.mark_one.new.row c.args.base c.args.m c.in-Some.v c.loop-i.i l c.loop-i.invariant.3 c.mark_one.ensures n.0 n.1 c.if-not-mark_one.true
 
 pub loop-i-preserved : goal.loop-i-preserved
 loop-i-preserved c = let l = values_at 32 c.args.s.now c.args.at c.args.count in
-    let v = line-value c.args.s.now c.loop-i.k c.in-Some.v c.in-Some.next c.get_field.ensures c.in-Some.is in
-    let n = next-value c.args.s.now c.loop-i.k c.loop-i.i c.args.count c.in-Some.v c.in-Some.next l c.loop-i.invariant.4.0 c.loop-i-test.true c.loop-i.invariant.4.1 v.0 in
-    (omega (arith, c.loop-i-test.true), v.1, c.mark_one.auto.row ∙ c.loop-i.invariant.2, mark-next c.args.row.now c.loop-i.row c.mark_one.new.row c.args.base c.args.m c.in-Some.v c.loop-i.i l c.loop-i.invariant.3 c.mark_one.ensures n.inside n.value c.if-not-mark_one.false, (c.loop-i.invariant.4.0, n.left_over))
+    let v = value_found c.args.s.now 32 c.loop-i.k c.in-Some.v c.in-Some.next c.get_field.ensures c.in-Some.is in
+    let n = read_next (number 32 10).read 0 (drop c.loop-i.k c.args.s.now) (drop c.in-Some.next c.args.s.now) c.in-Some.v l c.loop-i.i c.args.count c.loop-i.invariant.4.0 c.loop-i-test.true c.loop-i.invariant.4.1 v.0 in
+    (omega (arith, c.loop-i-test.true), v.1, c.mark_one.auto.row ∙ c.loop-i.invariant.2, mark-next c.args.row.now c.loop-i.row c.mark_one.new.row c.args.base c.args.m c.in-Some.v c.loop-i.i l c.loop-i.invariant.3 c.mark_one.ensures n.0 n.1 c.if-not-mark_one.false, (c.loop-i.invariant.4.0, n.2))
 
 pub shape_of-row : goal.shape_of-row
 shape_of-row c = c.loop-i.invariant.2
 
 pub returns : goal.returns
 returns c = let l = values_at 32 c.args.s.now c.args.at c.args.count in
-    mark-all c.args.row.now c.loop-i.row c.args.base c.args.m c.loop-i.i l c.loop-i.invariant.3 (done-length c.args.s.now c.loop-i.k c.loop-i.i c.args.count l c.loop-i.invariant.4.0 c.loop-i-test.false c.loop-i.invariant.4.1)
+    mark-all c.args.row.now c.loop-i.row c.args.base c.args.m c.loop-i.i l c.loop-i.invariant.3 (read-end (number 32 10).read 0 (drop c.loop-i.k c.args.s.now) l c.loop-i.i c.args.count c.loop-i.invariant.4.0 c.loop-i-test.false c.loop-i.invariant.4.1)

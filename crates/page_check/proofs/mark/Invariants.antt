@@ -1,4 +1,5 @@
-use Rattle.page_check.specs.Inner.Partition.{values_at, Marked}
+use Rattle.page_parser.specs.Inner.Values.{values_at}
+use Rattle.page_check.specs.Inner.Marks.{Marked}
 use Rattle.text.specs.Format.{number, read_all}
 use Rattle.text.specs.Text.{give}
 use lib.ListN.{length, drop, take}

@@ -1,7 +1,7 @@
 use native.Mathlib.Omega.{arith}
 use mathlib.Core.Path.{refl}
 use Prim.Native.Nat.{◌-◌}
-use Rattle.page_check.proofs.Counting.{mark-none, mark-twice, mark-first}
+use Rattle.page_check.proofs.Marking.{mark-none, mark-twice, mark-first}
 use Rattle.page_check.proofs.mark_one.Goals as goal
 
 pub returns-then-v-base : goal.returns-then-v-base

@@ -5,9 +5,15 @@ use Rattle.std.specs.Prelude.{Ok, Err}
 use Rattle.refusal.specs.declared.Refusal.{Refusal}
 use Rattle.refusal.specs.Told.{number_of}
 use Rattle.heap.specs.State.{State}
-use Rattle.word.specs.Result.{Result, refused}
-use Rattle.page_check.specs.Sections.{Accepted}
+use Rattle.word.specs.Result.{Result, ok, refused}
+use Rattle.page_parser.specs.Inner.Sections.{brought_in, Sectioned}
+use Rattle.page_parser.specs.declared.Sections.{Sections}
 use Rattle.page_check.specs.declared.page.Page.{Page}
+
+-- a page that can be read
+pub record Accepted (s : List ℕ) (v : Result State) (x : Sections) : Type 0 where
+  pub verdict : v ≡ ok (brought_in s)
+  pub sections : Sectioned s x
 
 -- the text as a page that can be read, or what it is refused for
 abbrev pub Checking : List ℕ → (verdict : Result State) → code.Result Page Refusal → Type 0

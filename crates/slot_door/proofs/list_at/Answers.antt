@@ -2,7 +2,8 @@
 use mathlib.Core.Path.{subst}
 use lib.ListN.{length}
 use Rattle.ty.specs.View.{lent}
-use Rattle.trace.specs.Listing.{listing, Lists}
+use Rattle.traced.specs.Listing.{listing}
+use Rattle.traced.specs.Inner.Lists.{Lists}
 use Rattle.slot_door.proofs.SlotCalls.{shown-at}
 use Rattle.slot_door.proofs.list_at.Goals as goal
 

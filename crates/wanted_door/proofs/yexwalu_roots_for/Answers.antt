@@ -5,7 +5,7 @@ use Rattle.std.proofs.lemmas.Result.{IfOk-at_ok}
 use Rattle.ty.specs.View.{table_of}
 use Rattle.heap.specs.Lent.{Lent, lent, view}
 use Rattle.heap.specs.Inner.Seen.{seen}
-use Rattle.trace.specs.Listing.{Lists}
+use Rattle.traced.specs.Inner.Lists.{Lists}
 use Rattle.door.specs.HeapCalls.{entry_of}
 use Rattle.wanted_door.specs.Inner.Listing.{CanSearch}
 use Rattle.wanted_door.specs.RootsFor.{root_handles}

@@ -1,6 +1,6 @@
 use mathlib.Core.Path.{refl, ◌∙◌}
 use native.Mathlib.Omega.{arith}
-use Rattle.page_check.proofs.Once.{left-whole, left-next, left-wrong, left-none, run-parsed}
+use Rattle.page_check.proofs.Rules.{left-whole, left-next, left-wrong, left-none, run-parsed}
 use Rattle.page_check.proofs.page.Page.check_rule.Goals as goal
 
 pub loop-base-init : goal.loop-base-init

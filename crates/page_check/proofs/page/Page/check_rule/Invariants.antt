@@ -1,7 +1,7 @@
 use mathlib.Core.Path.{◌≡◌}
 use Prim.Native.Nat.{◌-◌}
 use lib.ListN.{length}
-use Rattle.page_check.proofs.Once.{Left}
+use Rattle.page_check.proofs.Rules.{Left}
 use Rattle.page_check.proofs.page.Page.check_rule.Given as goal
 
 abbrev pub invariant-loop-base : goal.invariant-loop-base

@@ -1,4 +1,4 @@
-use Rattle.page_check.proofs.Once.{dead-free, dead-quarantine, dead-retired}
+use Rattle.page_check.proofs.Rules.{dead-free, dead-quarantine, dead-retired}
 use Rattle.page_check.proofs.page.Page.mark_dead.Goals as goal
 
 pub returns-then-not-mark : goal.returns-then-not-mark

@@ -1,4 +1,4 @@
-use Rattle.page_check.proofs.Once.{listed-once, listed-young, listed-worn}
+use Rattle.page_check.proofs.Rules.{listed-once, listed-young, listed-worn}
 use Rattle.page_check.proofs.page.Page.mark_listed.Goals as goal
 
 pub returns-in-Once : goal.returns-in-Once

@@ -1,0 +1,4 @@
+use Rattle.page_parser.proofs.aged.Goals as goal
+
+pub returns : goal.returns
+returns c = cc
