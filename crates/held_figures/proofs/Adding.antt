@@ -18,6 +18,7 @@ stays : (t f g : Figures) → in_words (merge (in_words (merge t f)) g) ≡ in_w
 stays t f g = figures-same _ _ (omega arith) (omega arith) (omega arith)
 
 pub added-are : (t : Figures) (fs : List Figures) → in_words (added t fs) ≡ in_words (merge t (total fs))
+  unfolding added
 added-are t [] = ap in_words (sym (merge_none t))
 added-are t (f ∷ fs) = added-are (in_words (merge t f)) fs ∙ stays t f (total fs)
 
