@@ -2,8 +2,34 @@
 //!
 //! A call is proved to do what its contract says for all values of its parameters, so what makes one unsafe is only what C always asks: a pointer leads to as many elements as the length after it says,
 //! is aligned and not null (also where the length is 0), and memory that a call may write is lent to no other parameter of it.
+//!
+//! A heap of four slots and 64 bytes in memory of one's own, and the question how many objects it has:
+//!
+//! ```
+//! use yexwalu::ffi;
+//! let (mut narrow, mut wide, mut pool) = ([0u32; 24], [0u64; 16], [0u8; 64]);
+//! let (mut marks, mut work) = ([0u8; 4], [0u64; 4]);
+//! // SAFETY: each length is that of its array, and none is lent twice
+//! let done = unsafe { ffi::yexwalu_new(1, narrow.as_mut_ptr(), 24, wide.as_mut_ptr(), 16, pool.as_mut_ptr(), 64, marks.as_mut_ptr(), 4, work.as_mut_ptr(), 4) };
+//! assert_eq!((done.answer.number, done.heap.tag), (0, 1));
+//! // SAFETY: as above
+//! let live = unsafe { ffi::yexwalu_live(done.heap, narrow.as_mut_ptr(), 24, wide.as_mut_ptr(), 16, pool.as_mut_ptr(), 64, marks.as_mut_ptr(), 4, work.as_mut_ptr(), 4) };
+//! assert_eq!((live.number, live.first), (0, 0));
+//! ```
 
 /// The numbers of a heap that lies in lent memory. A host may read them, and save them with the memory; a header that does not fit its memory is refused (1). It may get more fields.
+///
+/// ```
+/// use yexwalu::{Header, Heap, Kind, Refusal};
+/// let mut heap = Heap::new(1, 64, 4096)?;
+/// let hall = heap.alloc(Kind::Bytes, b"AB")?;
+/// heap.free(hall)?;
+/// let header: &Header = heap.header();
+/// assert_eq!((header.tag, header.slots, header.quarantine, header.reclaim_at), (1, 1, 1, 4096));
+/// // one release, of slot 0
+/// assert_eq!((header.epoch, header.log[1]), (1, 0));
+/// # Ok::<(), Refusal>(())
+/// ```
 #[repr(C)]
 #[derive(Clone, Copy, Debug, Default, PartialEq, Eq)]
 #[non_exhaustive]
@@ -33,6 +59,13 @@ pub struct Header {
 }
 
 /// What a heap shows on a shelf of pages (docs/FORMAT.md, section 16): see [`Heap::figures`](crate::Heap::figures). It may get more fields.
+///
+/// ```
+/// use yexwalu::Figures;
+/// let none = Figures::default();
+/// assert_eq!((none.objects, none.bytes, none.largest), (0, 0, 0));
+/// assert_eq!(none.line(0, 0), b"0,0,0,0,0,0,0\n");
+/// ```
 #[repr(C)]
 #[derive(Clone, Copy, Debug, Default, PartialEq, Eq)]
 #[non_exhaustive]

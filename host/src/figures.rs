@@ -47,11 +47,8 @@ impl Figures {
     /// ```
     #[must_use]
     pub fn and(self, other: Figures) -> Figures {
-        Figures {
-            objects: self.objects.saturating_add(other.objects),
-            bytes: self.bytes.saturating_add(other.bytes),
-            largest: self.largest.max(other.largest),
-        }
+        // SAFETY: the call takes two values and answers one.
+        unsafe { held::yexwalu_held_figures_and(self, other) }
     }
 
     /// The line that is printed of a page by its number and its answer, or with page 0 that of all of them: `page,answer,objects,bytes,largest,mean,rest`, with byte 10 at its end. Mean and rest are quotient and remainder of bytes by objects,

@@ -6,6 +6,23 @@ const MAX_BLOCKS: usize = 4096;
 const MAX_REGISTERS: usize = 16384;
 
 /// What an instruction does. Only that of a block's last instruction says where the code goes on.
+///
+/// ```
+/// use yexwalu::{Class, Function, InstKind, Refusal, Wanted};
+/// let mut f = Function::new();
+/// let hall = f.register(Class::Handle);
+/// // a loop: block 0 goes to block 1 or to block 2, block 1 calls and goes back
+/// f.instruction(InstKind::Conditional, &[], &[], &[1, 2]);
+/// let call = f.instruction(InstKind::Safepoint, &[], &[], &[]);
+/// f.instruction(InstKind::Branch, &[], &[], &[0]);
+/// f.instruction(InstKind::Return, &[], &[hall], &[]);
+/// for (start, end) in [(0, 1), (1, 3), (3, 4)] {
+///     f.block(start, end);
+/// }
+/// // what is read after the loop is live in it
+/// assert_eq!(f.live_at(call, Wanted::All)?, [hall]);
+/// # Ok::<(), Refusal>(())
+/// ```
 #[derive(Clone, Copy, Debug, PartialEq, Eq, Hash)]
 #[non_exhaustive]
 pub enum InstKind {
@@ -26,6 +43,18 @@ pub enum InstKind {
 }
 
 /// What a register holds.
+///
+/// ```
+/// use yexwalu::{Class, Function, InstKind, Refusal, Wanted};
+/// let mut f = Function::new();
+/// let all = [Class::I64, Class::F64, Class::Ptr, Class::Sig, Class::Handle].map(|class| f.register(class));
+/// let call = f.instruction(InstKind::Safepoint, &[], &[], &[]);
+/// f.instruction(InstKind::Return, &[], &all, &[]);
+/// f.block(0, 2);
+/// // the address and the handle
+/// assert_eq!(f.live_at(call, Wanted::References)?, [2, 4]);
+/// # Ok::<(), Refusal>(())
+/// ```
 #[derive(Clone, Copy, Debug, PartialEq, Eq, Hash)]
 #[non_exhaustive]
 pub enum Class {
@@ -42,6 +71,18 @@ pub enum Class {
 }
 
 /// Which registers a live map has.
+///
+/// ```
+/// use yexwalu::{Class, Function, InstKind, Refusal, Wanted};
+/// let mut f = Function::new();
+/// let (count, hall) = (f.register(Class::I64), f.register(Class::Handle));
+/// let call = f.instruction(InstKind::Safepoint, &[], &[], &[]);
+/// f.instruction(InstKind::Return, &[], &[count, hall], &[]);
+/// f.block(0, 2);
+/// assert_eq!(f.live_at(call, Wanted::References)?, [hall]);
+/// assert_eq!(f.live_at(call, Wanted::All)?, [count, hall]);
+/// # Ok::<(), Refusal>(())
+/// ```
 #[derive(Clone, Copy, Debug, PartialEq, Eq, Hash)]
 #[non_exhaustive]
 pub enum Wanted {
@@ -85,11 +126,25 @@ pub struct Function {
 
 impl Function {
     /// A function without code.
+    ///
+    /// ```
+    /// use yexwalu::{Function, Refusal, Wanted};
+    /// let f = Function::new();
+    /// assert_eq!(f.position(), 0);
+    /// assert!(f.live_refs(Wanted::All)?.is_empty());
+    /// # Ok::<(), Refusal>(())
+    /// ```
     pub fn new() -> Function {
         Function::default()
     }
 
     /// A new register; the answer is its number.
+    ///
+    /// ```
+    /// use yexwalu::{Class, Function};
+    /// let mut f = Function::new();
+    /// assert_eq!((f.register(Class::Handle), f.register(Class::I64)), (0, 1));
+    /// ```
     pub fn register(&mut self, class: Class) -> u32 {
         let register = number(self.classes.len());
         self.classes.push(class as u8);
@@ -97,12 +152,31 @@ impl Function {
     }
 
     /// The number of the next instruction.
+    ///
+    /// ```
+    /// use yexwalu::{Function, InstKind};
+    /// let mut f = Function::new();
+    /// let start = f.position();
+    /// f.instruction(InstKind::Return, &[], &[], &[]);
+    /// assert_eq!((start, f.position()), (0, 1));
+    /// f.block(start, f.position());
+    /// ```
     pub fn position(&self) -> u32 {
         number(self.kinds.len())
     }
 
     /// A new instruction; the answer is its number. Targets are block numbers; those of a case are its arms, then the default. Past
     /// 4,294,967,295 registers and targets in all the function is refused (15).
+    ///
+    /// ```
+    /// use yexwalu::{Class, Function, InstKind};
+    /// let mut f = Function::new();
+    /// let [sum, a, b] = [Class::I64; 3].map(|class| f.register(class));
+    /// // sum = a + b, and then to block 1 or to block 2, by `sum`
+    /// assert_eq!(f.instruction(InstKind::Plain, &[sum], &[a, b], &[]), 0);
+    /// assert_eq!(f.instruction(InstKind::Conditional, &[], &[sum], &[1, 2]), 1);
+    /// assert_eq!(f.refs, [sum, a, b, sum, 1, 2]);
+    /// ```
     pub fn instruction(&mut self, kind: InstKind, writes: &[u32], reads: &[u32], targets: &[u32]) -> u32 {
         let instruction = self.position();
         let fits = self.refs.len() + writes.len() + reads.len() + targets.len() <= u32::MAX as usize;
@@ -116,6 +190,14 @@ impl Function {
     }
 
     /// A block of the instructions from `start` up to `end`, without that; the answer is its number.
+    ///
+    /// ```
+    /// use yexwalu::{Function, InstKind};
+    /// let mut f = Function::new();
+    /// f.instruction(InstKind::Branch, &[], &[], &[1]);
+    /// f.instruction(InstKind::Return, &[], &[], &[]);
+    /// assert_eq!((f.block(0, 1), f.block(1, 2)), (0, 1));
+    /// ```
     pub fn block(&mut self, start: u32, end: u32) -> u32 {
         let block = number(self.blocks.len() / 2);
         self.blocks.extend_from_slice(&[start, end]);
@@ -123,6 +205,18 @@ impl Function {
     }
 
     /// How many words of scratch the live map takes: (3 × blocks + 2) × words per row, a row having a bit a register.
+    ///
+    /// ```
+    /// use yexwalu::{Class, Function, InstKind};
+    /// let mut f = Function::new();
+    /// for _ in 0..65 {
+    ///     f.register(Class::I64);
+    /// }
+    /// f.instruction(InstKind::Return, &[], &[], &[]);
+    /// f.block(0, 1);
+    /// // five rows, of two words each
+    /// assert_eq!(f.scratch_words(), 10);
+    /// ```
     pub fn scratch_words(&self) -> usize {
         (3 * (self.blocks.len() / 2) + 2).saturating_mul(self.classes.len().div_ceil(64))
     }
@@ -159,6 +253,21 @@ impl Function {
     }
 
     /// As `live_at`, with the registers written to the front of a lent output (7), and lent scratch, of `scratch_words` at least (18). The answer is how many.
+    ///
+    /// ```
+    /// use yexwalu::{Class, Function, InstKind, Refusal, Wanted};
+    /// let mut f = Function::new();
+    /// let hall = f.register(Class::Handle);
+    /// let call = f.instruction(InstKind::Safepoint, &[], &[], &[]);
+    /// f.instruction(InstKind::Return, &[], &[hall], &[]);
+    /// f.block(0, 2);
+    /// let (mut regs, mut rows) = ([0; 8], vec![0; f.scratch_words()]);
+    /// let n = f.live_at_into(call, Wanted::All, &mut regs, &mut rows)?;
+    /// assert_eq!(regs[..n], [hall]);
+    /// assert_eq!(f.live_at_into(call, Wanted::All, &mut [], &mut rows), Err(Refusal::ShortList));
+    /// assert_eq!(f.live_at_into(call, Wanted::All, &mut regs, &mut []), Err(Refusal::Scratch));
+    /// # Ok::<(), Refusal>(())
+    /// ```
     pub fn live_at_into(&self, pc: u32, wanted: Wanted, regs: &mut [u32], rows: &mut [u64]) -> Result<usize, Refusal> {
         // SAFETY: each pointer leads to as many elements as the length after it says. What the call writes, scratch and output, is borrowed mutably.
         let answer = unsafe {
@@ -179,6 +288,19 @@ impl Function {
     }
 
     /// Every safepoint of a block, rising, with the registers that are live before it, rising. It is refused where the function is not in order (15).
+    ///
+    /// ```
+    /// use yexwalu::{Class, Function, InstKind, Refusal, Wanted};
+    /// let mut f = Function::new();
+    /// let (hall, count) = (f.register(Class::Handle), f.register(Class::I64));
+    /// let first = f.instruction(InstKind::Safepoint, &[], &[], &[]);
+    /// f.instruction(InstKind::Plain, &[count], &[hall], &[]);
+    /// let second = f.instruction(InstKind::Safepoint, &[], &[], &[]);
+    /// f.instruction(InstKind::Return, &[], &[count], &[]);
+    /// f.block(0, 4);
+    /// assert_eq!(f.live_refs(Wanted::All)?, [(first, vec![hall]), (second, vec![count])]);
+    /// # Ok::<(), Refusal>(())
+    /// ```
     pub fn live_refs(&self, wanted: Wanted) -> Result<Vec<(u32, Vec<u32>)>, Refusal> {
         let f = self.within_counts();
         let mut rows = vec![0; f.scratch_words()];
@@ -206,6 +328,21 @@ impl Function {
 
     /// As `live_refs`, with the answer at the front of lent outputs (7): the safepoints, where the registers of each end, the registers; and lent scratch, of `scratch_words` at least (18). The answer is how
     /// many safepoints and registers.
+    ///
+    /// ```
+    /// use yexwalu::{Class, Function, InstKind, Refusal, Wanted};
+    /// let mut f = Function::new();
+    /// let (hall, count) = (f.register(Class::Handle), f.register(Class::I64));
+    /// let first = f.instruction(InstKind::Safepoint, &[], &[], &[]);
+    /// let second = f.instruction(InstKind::Safepoint, &[hall], &[], &[]);
+    /// f.instruction(InstKind::Return, &[], &[hall, count], &[]);
+    /// f.block(0, 3);
+    /// let (mut pcs, mut bounds, mut regs) = ([0; 4], [0; 4], [0; 4]);
+    /// let (points, registers) = f.live_refs_into(Wanted::All, &mut pcs, &mut bounds, &mut regs, &mut vec![0; f.scratch_words()])?;
+    /// assert_eq!((&pcs[..points], &bounds[..points]), (&[first, second][..], &[1, 2][..]));
+    /// assert_eq!(regs[..registers], [count, count]);
+    /// # Ok::<(), Refusal>(())
+    /// ```
     pub fn live_refs_into(&self, wanted: Wanted, pcs: &mut [u32], bounds: &mut [u32], regs: &mut [u32], rows: &mut [u64]) -> Result<(usize, usize), Refusal> {
         // SAFETY: each pointer leads to as many elements as the length after it says. What the call writes, scratch and outputs, is borrowed mutably.
         let answer = unsafe {

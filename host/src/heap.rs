@@ -7,6 +7,20 @@ use std::fmt;
 use std::ops::Range;
 
 /// What an object is: its kind, and the type of a typed one. It says where a collection looks for handles in the object's visible data.
+///
+/// ```
+/// use yexwalu::{Heap, Kind, Refusal, TypeTable};
+/// let mut table = TypeTable::new();
+/// let access = table.access();
+/// let mut heap = Heap::new(1, 64, 4096)?;
+/// let text = heap.alloc(Kind::Bytes, b"hall")?;
+/// let list = heap.alloc(Kind::Handles, &[&[0; 24][..], &text.0.to_le_bytes()].concat())?;
+/// let node = heap.alloc(Kind::Typed(access), &list.0.to_le_bytes())?;
+/// for (object, shown) in [(text, vec![]), (list, vec![text]), (node, vec![list])] {
+///     assert_eq!(heap.slot_handles(&table, heap.resolve(object)?)?, shown);
+/// }
+/// # Ok::<(), Refusal>(())
+/// ```
 #[derive(Clone, Copy, Debug, PartialEq, Eq, Hash)]
 #[non_exhaustive]
 pub enum Kind {
@@ -38,6 +52,15 @@ impl Kind {
 }
 
 /// An object that was taken from its heap: all its bytes, and where its visible data starts in them.
+///
+/// ```
+/// use yexwalu::{Heap, Kind, Refusal};
+/// let mut heap = Heap::new(1, 64, 4096)?;
+/// let line = heap.alloc_from(Kind::Bytes, 2, b"..hall")?;
+/// let object = heap.take(line)?;
+/// assert_eq!((&object.bytes[..], object.start), (&b"..hall"[..], 2));
+/// # Ok::<(), Refusal>(())
+/// ```
 #[derive(Clone, Debug, PartialEq, Eq)]
 #[non_exhaustive]
 pub struct Object {
@@ -48,6 +71,17 @@ pub struct Object {
 }
 
 /// Generation and write count of a slot. While both stay as they were, the object has not been touched. It may get more fields.
+///
+/// ```
+/// use yexwalu::{Heap, Kind, Refusal};
+/// let mut heap = Heap::new(1, 64, 4096)?;
+/// heap.alloc(Kind::Bytes, b"AB")?;
+/// let before = heap.stamp(0)?;
+/// assert_eq!((before.generation, before.writes), (1, 0));
+/// heap.write(0, 0, b"a")?;
+/// assert_ne!(heap.stamp(0)?, before);
+/// # Ok::<(), Refusal>(())
+/// ```
 #[derive(Clone, Copy, Debug, PartialEq, Eq, Hash)]
 #[non_exhaustive]
 pub struct Stamp {
@@ -58,6 +92,16 @@ pub struct Stamp {
 }
 
 /// How the objects of a page are written. Displayed, it is the column's name on a page.
+///
+/// ```
+/// use yexwalu::{Column, Heap, Refusal};
+/// let heap = Heap::new(1, 64, 4096)?;
+/// for column in [Column::Data, Column::Planes] {
+///     let page = String::from_utf8(heap.page_with(column)?).unwrap();
+///     assert!(page.contains(&format!(",writes64,{column}\n")));
+/// }
+/// # Ok::<(), Refusal>(())
+/// ```
 #[derive(Clone, Copy, Debug, PartialEq, Eq, Hash)]
 #[non_exhaustive]
 pub enum Column {
@@ -77,6 +121,14 @@ impl fmt::Display for Column {
 }
 
 /// The form of a page that was read. Displayed, it is the names by which a page's form is known (docs/FORMAT.md, section 14), as in `writes64, data, retired`. It may get more fields.
+///
+/// ```
+/// use yexwalu::{Column, Heap, Refusal};
+/// let (_, form) = Heap::open_with_form(&Heap::new(1, 64, 4096)?.write_page()?)?;
+/// assert_eq!((form.bits, form.retired, form.column), (64, true, Column::Data));
+/// assert_eq!(form.to_string(), "writes64, data, retired");
+/// # Ok::<(), Refusal>(())
+/// ```
 #[derive(Clone, Copy, Debug, PartialEq, Eq, Hash)]
 #[non_exhaustive]
 pub struct Form {
@@ -99,6 +151,22 @@ impl fmt::Display for Form {
 /// call looks whether they hold a heap. They may become more.
 ///
 /// With S slots, `narrow` has six runs of S numbers and `wide` four, run after run; entry i of a run is that of slot i, or the list's entry i. `Header` has how many entries are in use; the others are zero.
+///
+/// ```
+/// use yexwalu::{Heap, Kind, Refusal, Slot};
+/// let mut heap = Heap::new(1, 4, 64)?;
+/// let (gone, hall) = (heap.alloc(Kind::Bytes, b"gone")?, heap.alloc_from(Kind::Typed(7), 1, b"hall")?);
+/// heap.seal()?;
+/// heap.free(gone)?;
+/// let (m, h) = (heap.memory(), heap.header());
+/// assert_eq!((m.slots(), h.slots), (4, 2));
+/// assert_eq!((&m.generation()[..2], &m.kind()[..2], &m.ty()[..2]), (&[2, 1][..], &[0, 1][..], &[0, 7][..]));
+/// assert_eq!((&m.start()[..2], &m.end()[..2], &m.writes()[..2]), (&[0, 1][..], &[0, 4][..], &[0, 0][..]));
+/// assert_eq!((h.free, h.retired, &m.quarantine()[..h.quarantine]), (0, 0, &[Slot(0)][..]));
+/// assert_eq!(m.sealed()[..h.sealed], [gone, hall]);
+/// assert_eq!(&m.pool[..4], b"hall");
+/// # Ok::<(), Refusal>(())
+/// ```
 #[derive(Clone, Debug, PartialEq, Eq)]
 #[non_exhaustive]
 pub struct Memory {
@@ -169,6 +237,12 @@ impl Memory {
 }
 
 /// Scratch, which says nothing about the heap. All of it is zero after every call that was lent enough. It may get more lists.
+///
+/// ```
+/// use yexwalu::Scratch;
+/// let scratch = Scratch::zeros(64);
+/// assert_eq!((scratch.marks.len(), scratch.work.len()), (64, 64));
+/// ```
 #[derive(Clone, Debug, PartialEq, Eq)]
 #[non_exhaustive]
 pub struct Scratch {
@@ -361,9 +435,19 @@ fn listed(addresses: &[(u64, Slot)]) -> Vec<u64> {
 
 impl Heap {
     /// The most slots that a heap can have.
+    ///
+    /// ```
+    /// use yexwalu::{Heap, Refusal};
+    /// assert_eq!(Heap::new(1, Heap::MAX_SLOTS + 1, 0), Err(Refusal::BrokenHeap));
+    /// ```
     pub const MAX_SLOTS: usize = 16_777_216;
 
     /// The most bytes of data that a heap can have.
+    ///
+    /// ```
+    /// use yexwalu::{Heap, Refusal};
+    /// assert_eq!(Heap::new(1, 1, Heap::MAX_POOL + 1), Err(Refusal::BrokenHeap));
+    /// ```
     pub const MAX_POOL: usize = 1_073_741_824;
 
     // New memory for a heap; none for sizes out of range.
@@ -387,6 +471,15 @@ impl Heap {
     }
 
     /// An empty heap in memory that is given, which is cleared. It must be of such sizes, `narrow` six times and `wide` four times as long as the number of slots (1). After a refusal it comes back as it was, and scratch with it.
+    ///
+    /// ```
+    /// use yexwalu::{Heap, Memory, Refusal, Scratch};
+    /// let heap = Heap::new_in(1, Memory::zeros(64, 4096), Scratch::zeros(64)).map_err(|e| e.0)?;
+    /// assert_eq!(heap, Heap::new(1, 64, 4096)?);
+    /// let (why, memory, scratch) = Heap::new_in(1, Memory::zeros(64, 4096), Scratch::zeros(63)).unwrap_err();
+    /// assert_eq!((why, memory.slots(), scratch.marks.len()), (Refusal::Scratch, 64, 63));
+    /// # Ok::<(), Refusal>(())
+    /// ```
     // the heap of a success is no smaller
     #[allow(clippy::result_large_err)]
     pub fn new_in(tag: u8, mut memory: Memory, mut scratch: Scratch) -> Result<Heap, (Refusal, Memory, Scratch)> {
@@ -403,6 +496,19 @@ impl Heap {
     }
 
     /// A heap put together from its parts. Nothing is looked at here: every call is refused where they are no heap (1) or scratch is short (18), until one is answered.
+    ///
+    /// ```
+    /// use yexwalu::{Heap, Kind, Refusal};
+    /// let mut heap = Heap::new(1, 64, 4096)?;
+    /// let hall = heap.alloc(Kind::Bytes, b"AB")?;
+    /// let (header, mut memory, scratch) = heap.into_parts();
+    /// let again = Heap::from_parts(header, memory.clone(), scratch.clone());
+    /// assert_eq!(again.data(again.resolve(hall)?)?, b"AB");
+    /// // what lies past the data is zero in a heap
+    /// memory.pool[9] = 1;
+    /// assert_eq!(Heap::from_parts(header, memory, scratch).live(), Err(Refusal::BrokenHeap));
+    /// # Ok::<(), Refusal>(())
+    /// ```
     pub fn from_parts(header: Header, memory: Memory, scratch: Scratch) -> Heap {
         Heap {
             header,
@@ -413,11 +519,28 @@ impl Heap {
     }
 
     /// The parts of the heap, for `from_parts`.
+    ///
+    /// ```
+    /// use yexwalu::{Heap, Refusal};
+    /// let (header, memory, scratch) = Heap::new(1, 64, 4096)?.into_parts();
+    /// assert_eq!((header.tag, memory.slots(), scratch.work.len()), (1, 64, 64));
+    /// # Ok::<(), Refusal>(())
+    /// ```
     pub fn into_parts(self) -> (Header, Memory, Scratch) {
         (self.header, self.memory, self.scratch.into_inner())
     }
 
     /// The heap's numbers. They are changed by calls alone:
+    ///
+    /// ```
+    /// use yexwalu::{Heap, Kind, Refusal};
+    /// let mut heap = Heap::new(1, 64, 4096)?;
+    /// heap.alloc(Kind::Bytes, b"AB")?;
+    /// assert_eq!((heap.header().tag, heap.header().slots, heap.header().since_gc), (1, 1, 34));
+    /// # Ok::<(), Refusal>(())
+    /// ```
+    ///
+    /// and this is refused:
     ///
     /// ```compile_fail,E0594
     /// # use yexwalu::Heap;
@@ -448,6 +571,12 @@ impl Heap {
     }
 
     /// The scratch, as the last call left it.
+    ///
+    /// ```
+    /// use yexwalu::{Heap, Refusal, Scratch};
+    /// assert_eq!(Heap::new(1, 64, 4096)?.scratch(), Scratch::zeros(64));
+    /// # Ok::<(), Refusal>(())
+    /// ```
     pub fn scratch(&self) -> Scratch {
         self.scratch.borrow().clone()
     }
@@ -499,6 +628,15 @@ impl Heap {
     }
 
     /// As `alloc_from`, with the kind as a number: 1 Typed, 2 Bytes, 3 Handles; others are refused (8). Kinds 2 and 3 ignore the type.
+    ///
+    /// ```
+    /// use yexwalu::{Heap, Kind, Refusal};
+    /// let mut heap = Heap::new(1, 64, 4096)?;
+    /// heap.alloc_raw(1, 7, 0, b"AB")?;
+    /// assert_eq!(heap.kind(0)?, Kind::Typed(7));
+    /// assert_eq!(heap.alloc_raw(4, 7, 0, b"AB"), Err(Refusal::Kind));
+    /// # Ok::<(), Refusal>(())
+    /// ```
     pub fn alloc_raw(&mut self, kind: u8, ty: TypeId, start: usize, bytes: &[u8]) -> Result<Handle, Refusal> {
         let told = change_known!(self, yexwalu_held_alloc_from(kind, ty, start, bytes.as_ptr(), bytes.len()),
             change!(&mut self.memory, self.scratch.get_mut(), yexwalu_alloc_from(self.header)(kind, ty, start, bytes.as_ptr(), bytes.len())));
@@ -536,6 +674,17 @@ impl Heap {
     }
 
     /// As `take`, with the bytes written to the front of a lent output. The answer is how many, and the start. Too short an output is refused (7), and nothing changes.
+    ///
+    /// ```
+    /// use yexwalu::{Heap, Kind, Refusal};
+    /// let mut heap = Heap::new(1, 64, 4096)?;
+    /// let line = heap.alloc_from(Kind::Bytes, 2, b"..hall")?;
+    /// let mut out = [0; 8];
+    /// assert_eq!(heap.take_into(line, &mut out[..5]), Err(Refusal::ShortList));
+    /// assert_eq!(heap.take_into(line, &mut out)?, (6, 2));
+    /// assert_eq!(&out, b"..hall\0\0");
+    /// # Ok::<(), Refusal>(())
+    /// ```
     pub fn take_into(&mut self, handle: Handle, out: &mut [u8]) -> Result<(usize, usize), Refusal> {
         self.take_to(handle, out.as_mut_ptr(), out.len())
     }
@@ -550,6 +699,15 @@ impl Heap {
     }
 
     /// As `take`, without handing out the object: it is gone.
+    ///
+    /// ```
+    /// use yexwalu::{Heap, Kind, Refusal};
+    /// let mut heap = Heap::new(1, 64, 4096)?;
+    /// let hall = heap.alloc(Kind::Bytes, b"AB")?;
+    /// heap.free(hall)?;
+    /// assert_eq!(heap.free(hall), Err(Refusal::Stale));
+    /// # Ok::<(), Refusal>(())
+    /// ```
     pub fn free(&mut self, handle: Handle) -> Result<(), Refusal> {
         let told = change_known!(self, yexwalu_held_free(handle.0), change!(&mut self.memory, self.scratch.get_mut(), yexwalu_free(self.header)(handle.0)));
         told.map(|_| ())
@@ -618,6 +776,17 @@ impl Heap {
 
     /// A new handle for a live slot: older ones become stale, and its writes are counted from 0 again. `grown` is added to the bytes since the last collection. A slot that is not there or dead is
     /// refused (9), and then one that has its last generation, 4,294,967,295 (20).
+    ///
+    /// ```
+    /// use yexwalu::{Heap, Kind, Refusal};
+    /// let mut heap = Heap::new(1, 64, 4096)?;
+    /// let old = heap.alloc(Kind::Bytes, b"AB")?;
+    /// let slot = heap.resolve(old)?;
+    /// let new = heap.reissue(slot, 0)?;
+    /// assert_eq!((heap.resolve(old), heap.resolve(new)), (Err(Refusal::Stale), Ok(slot)));
+    /// assert_eq!(heap.reissue(1, 0), Err(Refusal::NothingThere));
+    /// # Ok::<(), Refusal>(())
+    /// ```
     pub fn reissue(&mut self, slot: impl Into<Slot>, grown: u64) -> Result<Handle, Refusal> {
         let i = slot.into().at();
         let told = change_known!(self, yexwalu_held_reissue(i, grown), change!(&mut self.memory, self.scratch.get_mut(), yexwalu_reissue(self.header)(i, grown)));
@@ -898,26 +1067,77 @@ impl Heap {
     }
 
     /// Are so many slots in quarantine that they should be recycled?
+    ///
+    /// ```
+    /// use yexwalu::{Heap, Kind, Refusal};
+    /// let mut heap = Heap::new(1, 5000, 0)?;
+    /// assert_eq!(heap.header().reclaim_at, 4096);
+    /// while !heap.reclaim_due()? {
+    ///     let gone = heap.alloc(Kind::Bytes, b"")?;
+    ///     heap.free(gone)?;
+    /// }
+    /// assert_eq!(heap.header().quarantine, 4096);
+    /// # Ok::<(), Refusal>(())
+    /// ```
     pub fn reclaim_due(&self) -> Result<bool, Refusal> {
         Heap::yes(ask_known!(self, yexwalu_held_reclaim_due, yexwalu_reclaim_due()))
     }
 
     /// Is any slot in quarantine?
+    ///
+    /// ```
+    /// use yexwalu::{Heap, Kind, Refusal};
+    /// let mut heap = Heap::new(1, 64, 4096)?;
+    /// let hall = heap.alloc(Kind::Bytes, b"AB")?;
+    /// heap.free(hall)?;
+    /// assert!(heap.has_quarantine()?);
+    /// heap.recycle(&[])?;
+    /// assert!(!heap.has_quarantine()?);
+    /// # Ok::<(), Refusal>(())
+    /// ```
     pub fn has_quarantine(&self) -> Result<bool, Refusal> {
         Heap::yes(ask_known!(self, yexwalu_held_has_quarantine, yexwalu_has_quarantine()))
     }
 
     /// Is it the heap of this tag, with nothing sealed?
+    ///
+    /// ```
+    /// use yexwalu::{Heap, Kind, Refusal};
+    /// let mut heap = Heap::new(1, 64, 4096)?;
+    /// heap.alloc(Kind::Bytes, b"AB")?;
+    /// assert_eq!((heap.is_plain(1)?, heap.is_plain(2)?), (true, false));
+    /// heap.seal()?;
+    /// assert!(!heap.is_plain(1)?);
+    /// # Ok::<(), Refusal>(())
+    /// ```
     pub fn is_plain(&self, tag: u8) -> Result<bool, Refusal> {
         Heap::yes(ask_known!(self, yexwalu_held_is_plain, yexwalu_is_plain(tag)))
     }
 
     /// The number of slots, live and dead.
+    ///
+    /// ```
+    /// use yexwalu::{Heap, Kind, Refusal};
+    /// let mut heap = Heap::new(1, 64, 4096)?;
+    /// let gone = heap.alloc(Kind::Bytes, b"gone")?;
+    /// heap.alloc(Kind::Bytes, b"kept")?;
+    /// heap.free(gone)?;
+    /// assert_eq!((heap.slots()?, heap.live()?), (2, 1));
+    /// # Ok::<(), Refusal>(())
+    /// ```
     pub fn slots(&self) -> Result<usize, Refusal> {
         Ok(ask_known!(self, yexwalu_held_slots, yexwalu_slots())?.0 as usize)
     }
 
     /// The number of live slots.
+    ///
+    /// ```
+    /// use yexwalu::{Heap, Kind, Refusal};
+    /// let mut heap = Heap::new(1, 64, 4096)?;
+    /// heap.alloc(Kind::Bytes, b"AB")?;
+    /// assert_eq!(heap.live()?, 1);
+    /// # Ok::<(), Refusal>(())
+    /// ```
     pub fn live(&self) -> Result<usize, Refusal> {
         Ok(ask_known!(self, yexwalu_held_live, yexwalu_live())?.0 as usize)
     }
@@ -955,6 +1175,15 @@ impl Heap {
     }
 
     /// The visible data of a slot, refused as by `place`.
+    ///
+    /// ```
+    /// use yexwalu::{Heap, Kind, Refusal};
+    /// let mut heap = Heap::new(1, 64, 4096)?;
+    /// let line = heap.alloc_from(Kind::Bytes, 2, b"..hall")?;
+    /// assert_eq!(heap.data(heap.resolve(line)?)?, b"hall");
+    /// assert_eq!(heap.data(1), Err(Refusal::NothingThere));
+    /// # Ok::<(), Refusal>(())
+    /// ```
     pub fn data(&self, slot: impl Into<Slot>) -> Result<&[u8], Refusal> {
         let place = self.place(slot)?;
         Ok(&self.memory.pool[place])
@@ -1020,6 +1249,16 @@ impl Heap {
     }
 
     /// As `slot_handles`, with the handles written to the front of a lent list (7). The answer is how many.
+    ///
+    /// ```
+    /// use yexwalu::{Handle, Heap, Kind, Refusal, TypeTable};
+    /// let mut heap = Heap::new(1, 64, 4096)?;
+    /// heap.alloc(Kind::Handles, &[0, 0, 0, 7, 8u64].map(u64::to_le_bytes).concat())?;
+    /// let mut out = [Handle::NULL; 4];
+    /// let n = heap.slot_handles_into(&TypeTable::new(), 0, &mut out)?;
+    /// assert_eq!(out[..n], [Handle(7), Handle(8)]);
+    /// # Ok::<(), Refusal>(())
+    /// ```
     pub fn slot_handles_into(&self, types: &TypeTable, slot: impl Into<Slot>, out: &mut [Handle]) -> Result<usize, Refusal> {
         let slot = slot.into().at();
         let told = ask_known!(self, yexwalu_held_slot_handles, yexwalu_slot_handles(
@@ -1106,16 +1345,44 @@ impl Heap {
     }
 
     /// The same of a page with this column. With planes it has two bytes more, those of the longer name.
+    ///
+    /// ```
+    /// use yexwalu::{Column, Heap, Refusal};
+    /// let heap = Heap::new(1, 64, 4096)?;
+    /// assert_eq!(heap.page_length_with(Column::Planes)?, heap.page_with(Column::Planes)?.len());
+    /// assert_eq!(heap.page_length_with(Column::Planes)?, heap.page_length()? + 2);
+    /// # Ok::<(), Refusal>(())
+    /// ```
     pub fn page_length_with(&self, column: Column) -> Result<usize, Refusal> {
         Ok(ask_known!(self, yexwalu_held_page_length, yexwalu_page_length(column == Column::Planes))?.0 as usize)
     }
 
     /// As `write_page`, with the text written to the front of a lent output. The answer is the number of bytes, which is `page_length`. An output of so many bytes is enough; a shorter one is refused (7).
+    ///
+    /// ```
+    /// use yexwalu::{Heap, Refusal};
+    /// let heap = Heap::new(1, 64, 4096)?;
+    /// let mut out = vec![0; heap.page_length()?];
+    /// assert_eq!(heap.write_page_into(&mut out)?, out.len());
+    /// assert_eq!(out, heap.write_page()?);
+    /// let short = out.len() - 1;
+    /// assert_eq!(heap.write_page_into(&mut out[..short]), Err(Refusal::ShortList));
+    /// # Ok::<(), Refusal>(())
+    /// ```
     pub fn write_page_into(&self, out: &mut [u8]) -> Result<usize, Refusal> {
         self.write_page_with(Column::Data, out)
     }
 
     /// The same with this column; the answer is `page_length_with`.
+    ///
+    /// ```
+    /// use yexwalu::{Column, Heap, Refusal};
+    /// let heap = Heap::new(1, 64, 4096)?;
+    /// let mut out = [0; 1024];
+    /// let n = heap.write_page_with(Column::Planes, &mut out)?;
+    /// assert_eq!(&out[..n], heap.page_with(Column::Planes)?);
+    /// # Ok::<(), Refusal>(())
+    /// ```
     pub fn write_page_with(&self, column: Column, out: &mut [u8]) -> Result<usize, Refusal> {
         let told = ask_known!(self, yexwalu_held_write_page, yexwalu_write_page(column == Column::Planes, out.as_mut_ptr(), out.len()));
         Ok(told?.0 as usize)
@@ -1143,6 +1410,19 @@ impl Heap {
 
     /// As `read_page`, into this heap's memory. What it held is not looked at, and stays after a refusal. The answer is the form that was met: a page of 64 bits with `retired` is written
     /// again to the same bytes with the column that was met.
+    ///
+    /// ```
+    /// use yexwalu::{Heap, Kind, Refusal};
+    /// let mut first = Heap::new(1, 64, 4096)?;
+    /// let hall = first.alloc(Kind::Bytes, b"AB")?;
+    /// let mut second = Heap::new(2, 64, 4096)?;
+    /// assert_eq!(second.read_page_over(b"no page"), Err(Refusal::Page));
+    /// assert_eq!(second.resolve(hall), Err(Refusal::WrongHeap));
+    /// let form = second.read_page_over(&first.write_page()?)?;
+    /// assert_eq!(second.data(second.resolve(hall)?)?, b"AB");
+    /// assert_eq!(second.page_with(form.column)?, first.write_page()?);
+    /// # Ok::<(), Refusal>(())
+    /// ```
     pub fn read_page_over(&mut self, text: &[u8]) -> Result<Form, Refusal> {
         let done = change!(&mut self.memory, self.scratch.get_mut(), yexwalu_read_page(self.header)(text.as_ptr(), text.len()));
         let (bits, names) = self.done(done)?;

@@ -1,6 +1,13 @@
 use std::fmt;
 
 /// A place in a text.
+///
+/// ```
+/// use yexwalu::page_stops;
+/// let place = page_stops(b"tag,since").unwrap();
+/// assert_eq!((place.offset, place.line, place.column), (9, 1, 10));
+/// assert_eq!(place.to_string(), "line 1, column 10");
+/// ```
 #[derive(Clone, Copy, Debug, PartialEq, Eq, PartialOrd, Ord, Hash)]
 #[non_exhaustive]
 pub struct Place {

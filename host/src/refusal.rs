@@ -5,9 +5,10 @@ use std::fmt;
 ///
 /// ```
 /// use yexwalu::Refusal;
-/// assert_eq!(Refusal::Stale.number(), 4);
+/// assert_eq!((Refusal::Stale.number(), Refusal::Stale.word()), (4, "stale"));
 /// assert_eq!(Refusal::Stale.to_string(), "4: stale");
 /// assert_eq!(Refusal::from_number(19), Some(Refusal::NeverIssued));
+/// assert_eq!(Refusal::from_number(0), None);
 /// ```
 #[derive(Clone, Copy, Debug, PartialEq, Eq, PartialOrd, Ord, Hash)]
 #[non_exhaustive]

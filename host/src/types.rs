@@ -8,6 +8,14 @@ pub type TypeId = u32;
 pub type ConstId = u32;
 
 /// No constant: the value brings its own descriptor.
+///
+/// ```
+/// use yexwalu::{TypeTable, NO_CONSTANT};
+/// let mut table = TypeTable::new();
+/// let real = table.real();
+/// table.array(real, None, 1);
+/// assert_eq!(table.types[4..], [4, real.into(), NO_CONSTANT.into(), 1]);
+/// ```
 pub const NO_CONSTANT: ConstId = u32::MAX;
 
 /// The types of a saved run, and the constants that describe fields and elements. A type may name one that comes later; where it names one that is not there, its layout is malformed (11) and
@@ -43,6 +51,17 @@ pub struct TypeTable {
 }
 
 /// Which way an array's index goes. VHDL has these two, so a host may match on both.
+///
+/// ```
+/// use yexwalu::{descriptor, Direction, Refusal, TypeTable};
+/// let mut table = TypeTable::new();
+/// let real = table.real();
+/// let list = table.array(real, None, 1);
+/// // 1 to 3 has three elements, 1 downto 3 none
+/// assert_eq!(table.layout(list, &descriptor(&[(1, 3, Direction::To)]))?.count, 3);
+/// assert_eq!(table.layout(list, &descriptor(&[(1, 3, Direction::Downto)]))?.count, 0);
+/// # Ok::<(), Refusal>(())
+/// ```
 #[derive(Clone, Copy, Debug, PartialEq, Eq, Hash)]
 pub enum Direction {
     /// Rising.
@@ -69,6 +88,18 @@ pub fn descriptor(dimensions: &[(i64, i64, Direction)]) -> Vec<u8> {
 }
 
 /// Where the parts of a value lie.
+///
+/// ```
+/// use yexwalu::{descriptor, Direction, Refusal, TypeTable};
+/// let mut table = TypeTable::new();
+/// let real = table.real();
+/// let list = table.array(real, None, 1);
+/// let layout = table.layout(list, &descriptor(&[(1, 3, Direction::To)]))?;
+/// assert_eq!((layout.size, layout.align, layout.stride, layout.count, layout.used), (24, 8, 8, 3, 24));
+/// let record = table.record(&[(real, None), (real, None)]);
+/// assert_eq!(table.layout(record, &[])?.offsets, [0, 8]);
+/// # Ok::<(), Refusal>(())
+/// ```
 #[derive(Clone, Debug, PartialEq, Eq)]
 #[non_exhaustive]
 pub struct Layout {
@@ -104,7 +135,9 @@ impl ffi::RawLayout {
 ///
 /// ```
 /// use yexwalu::FrameSlot;
-/// assert_eq!(FrameSlot::new(8, 2, 3), FrameSlot::composite(8, 3));
+/// assert_eq!(FrameSlot::new(0, 0, 0), FrameSlot::handle(0));
+/// assert_eq!(FrameSlot::new(8, 1, 0), FrameSlot::address(8));
+/// assert_eq!(FrameSlot::new(16, 2, 3), FrameSlot::composite(16, 3));
 /// ```
 #[derive(Clone, Copy, Debug, PartialEq, Eq, Hash)]
 #[non_exhaustive]
@@ -161,6 +194,12 @@ macro_rules! on_table {
 
 impl TypeTable {
     /// A table without types.
+    ///
+    /// ```
+    /// use yexwalu::{Refusal, TypeTable};
+    /// let table = TypeTable::new();
+    /// assert_eq!(table.layout(0, &[]), Err(Refusal::Malformed));
+    /// ```
     pub fn new() -> TypeTable {
         TypeTable::default()
     }
@@ -172,32 +211,92 @@ impl TypeTable {
     }
 
     /// Whole numbers from `lo` to `hi`.
+    ///
+    /// ```
+    /// use yexwalu::{descriptor, Direction, Refusal, TypeTable};
+    /// let mut table = TypeTable::new();
+    /// let percent = table.integer(0, 100);
+    /// assert_eq!(table.layout(percent, &[])?.size, 8);
+    /// // as an element it takes four bytes where 32 bits are enough
+    /// let list = table.array(percent, None, 1);
+    /// assert_eq!(table.layout(list, &descriptor(&[(1, 5, Direction::To)]))?.size, 20);
+    /// # Ok::<(), Refusal>(())
+    /// ```
     pub fn integer(&mut self, lo: i64, hi: i64) -> TypeId {
         // words of the table have 64 bits; a class says which are signed
         self.add([0, lo as u64, hi as u64, 0])
     }
 
     /// A physical type.
+    ///
+    /// ```
+    /// use yexwalu::{Refusal, TypeTable};
+    /// let mut table = TypeTable::new();
+    /// let time = table.physical();
+    /// assert_eq!(table.layout(time, &[])?.size, 8);
+    /// # Ok::<(), Refusal>(())
+    /// ```
     pub fn physical(&mut self) -> TypeId {
         self.add([1, 0, 0, 0])
     }
 
     /// An enumeration of so many literals; `logic` is 1 for std_ulogic, 2 for bit, 3 for boolean, and 0 for others. Arrays of logic are packed.
+    ///
+    /// ```
+    /// use yexwalu::{descriptor, Direction, Refusal, TypeTable};
+    /// let mut table = TypeTable::new();
+    /// let (colour, unit, bit) = (table.enumeration(256, 0), table.enumeration(257, 0), table.enumeration(2, 2));
+    /// assert_eq!((table.layout(colour, &[])?.size, table.layout(unit, &[])?.size), (1, 4));
+    /// // 64 positions in 32 bytes
+    /// let bits = table.array(bit, None, 1);
+    /// assert_eq!(table.layout(bits, &descriptor(&[(63, 0, Direction::Downto)]))?.size, 32);
+    /// # Ok::<(), Refusal>(())
+    /// ```
     pub fn enumeration(&mut self, literals: u64, logic: u64) -> TypeId {
         self.add([2, literals, logic, 0])
     }
 
     /// Floating point numbers.
+    ///
+    /// ```
+    /// use yexwalu::{Refusal, TypeTable};
+    /// let mut table = TypeTable::new();
+    /// let gain = table.real();
+    /// assert_eq!((table.layout(gain, &[])?.size, table.has_handles(gain)?), (8, false));
+    /// # Ok::<(), Refusal>(())
+    /// ```
     pub fn real(&mut self) -> TypeId {
         self.add([3, 0, 0, 0])
     }
 
     /// An array of so many dimensions. An element that needs a descriptor has that of the constant; without one it is described after the dimensions.
+    ///
+    /// ```
+    /// use yexwalu::{descriptor, Direction, Refusal, TypeTable};
+    /// let mut table = TypeTable::new();
+    /// let real = table.real();
+    /// let pair = table.constant(&descriptor(&[(1, 2, Direction::To)]));
+    /// let points = table.array(real, None, 1);
+    /// // so many pairs as the descriptor says, the pairs described by the constant
+    /// let pairs = table.array(points, Some(pair), 1);
+    /// assert_eq!(table.layout(pairs, &descriptor(&[(1, 5, Direction::To)]))?.size, 80);
+    /// # Ok::<(), Refusal>(())
+    /// ```
     pub fn array(&mut self, elem: TypeId, elem_desc: Option<ConstId>, dims: u8) -> TypeId {
         self.add([4, elem.into(), elem_desc.unwrap_or(NO_CONSTANT).into(), dims.into()])
     }
 
     /// A record of these fields. A field that needs a descriptor has that of the constant; without one it is described in the record's descriptor, in the order of fields.
+    ///
+    /// ```
+    /// use yexwalu::{descriptor, Direction, Refusal, TypeTable};
+    /// let mut table = TypeTable::new();
+    /// let (real, access) = (table.real(), table.access());
+    /// let (list, three) = (table.array(real, None, 1), table.constant(&descriptor(&[(0, 2, Direction::To)])));
+    /// let node = table.record(&[(list, Some(three)), (access, None)]);
+    /// assert_eq!(table.layout(node, &[])?.offsets, [0, 24]);
+    /// # Ok::<(), Refusal>(())
+    /// ```
     pub fn record(&mut self, fields: &[(TypeId, Option<ConstId>)]) -> TypeId {
         let first = self.fields.len() / 2;
         for (ty, desc) in fields {
@@ -207,16 +306,40 @@ impl TypeTable {
     }
 
     /// Handles.
+    ///
+    /// ```
+    /// use yexwalu::{Handle, Refusal, TypeTable};
+    /// let mut table = TypeTable::new();
+    /// let access = table.access();
+    /// assert_eq!(table.value_handles(access, &7u64.to_le_bytes())?, [Handle(7)]);
+    /// # Ok::<(), Refusal>(())
+    /// ```
     pub fn access(&mut self) -> TypeId {
         self.add([6, 0, 0, 0])
     }
 
     /// A file type.
+    ///
+    /// ```
+    /// use yexwalu::{Refusal, TypeTable};
+    /// let mut table = TypeTable::new();
+    /// let file = table.file();
+    /// assert_eq!((table.layout(file, &[])?.size, table.has_handles(file)?), (4, false));
+    /// # Ok::<(), Refusal>(())
+    /// ```
     pub fn file(&mut self) -> TypeId {
         self.add([7, 0, 0, 0])
     }
 
     /// A protected type: a handle.
+    ///
+    /// ```
+    /// use yexwalu::{Refusal, TypeTable};
+    /// let mut table = TypeTable::new();
+    /// let counter = table.protected();
+    /// assert_eq!((table.layout(counter, &[])?.size, table.has_handles(counter)?), (8, true));
+    /// # Ok::<(), Refusal>(())
+    /// ```
     pub fn protected(&mut self) -> TypeId {
         self.add([8, 0, 0, 0])
     }
@@ -228,6 +351,14 @@ impl TypeTable {
     }
 
     /// A constant of plain bytes, such as `descriptor` gives them.
+    ///
+    /// ```
+    /// use yexwalu::{descriptor, Direction, TypeTable};
+    /// let mut table = TypeTable::new();
+    /// let five = descriptor(&[(1, 5, Direction::To)]);
+    /// assert_eq!((table.constant(&five), table.constant(&five)), (0, 1));
+    /// assert_eq!(table.bytes.len(), 48);
+    /// ```
     pub fn constant(&mut self, bytes: &[u8]) -> ConstId {
         let constant = self.add_constant([1, self.bytes.len() as u64, bytes.len() as u64]);
         self.bytes.extend_from_slice(bytes);
@@ -235,12 +366,32 @@ impl TypeTable {
     }
 
     /// A constant that is not plain bytes: in a layout it is malformed.
+    ///
+    /// ```
+    /// use yexwalu::{Refusal, TypeTable};
+    /// let mut table = TypeTable::new();
+    /// let (real, other) = (table.real(), table.other_constant());
+    /// let list = table.array(real, None, 1);
+    /// let record = table.record(&[(list, Some(other))]);
+    /// assert_eq!(table.layout(record, &[]), Err(Refusal::Malformed));
+    /// ```
     pub fn other_constant(&mut self) -> ConstId {
         self.add_constant([0, 0, 0])
     }
 
     /// The layout of a type under a descriptor, of which the front is used. It is refused where the table is not in order (10), and where type or descriptor are malformed (11) or the size is past 64
     /// bits (12).
+    ///
+    /// ```
+    /// use yexwalu::{descriptor, Direction, Refusal, TypeTable};
+    /// let mut table = TypeTable::new();
+    /// let real = table.real();
+    /// let list = table.array(real, None, 1);
+    /// assert_eq!(table.layout(list, &descriptor(&[(1, 3, Direction::To)]))?.size, 24);
+    /// assert_eq!(table.layout(list, &[]), Err(Refusal::Malformed));
+    /// assert_eq!(table.layout(list, &descriptor(&[(i64::MIN, i64::MAX, Direction::To)])), Err(Refusal::TooLarge));
+    /// # Ok::<(), Refusal>(())
+    /// ```
     pub fn layout(&self, ty: TypeId, desc: &[u8]) -> Result<Layout, Refusal> {
         // no record has more fields than the table
         let mut offsets = vec![0; self.fields.len() / 2];
@@ -250,6 +401,18 @@ impl TypeTable {
     }
 
     /// As `layout`, with the offsets written to the front of a lent list; `offsets` of the answer is how many. Too short a list is refused (7).
+    ///
+    /// ```
+    /// use yexwalu::{Refusal, TypeTable};
+    /// let mut table = TypeTable::new();
+    /// let (byte, access) = (table.enumeration(4, 0), table.access());
+    /// let record = table.record(&[(byte, None), (access, None)]);
+    /// let mut offsets = [0; 4];
+    /// let layout = table.layout_into(record, &[], &mut offsets)?;
+    /// assert_eq!((layout.size, &offsets[..layout.offsets as usize]), (16, &[0, 8][..]));
+    /// assert_eq!(table.layout_into(record, &[], &mut offsets[..1]), Err(Refusal::ShortList));
+    /// # Ok::<(), Refusal>(())
+    /// ```
     pub fn layout_into(&self, ty: TypeId, desc: &[u8], offsets: &mut [u64]) -> Result<ffi::RawLayout, Refusal> {
         let layout = on_table!(self, yexwalu_layout(ty.into(), desc.as_ptr(), desc.len(), offsets.as_mut_ptr(), offsets.len()));
         Refusal::check(layout.number)?;
@@ -322,6 +485,16 @@ impl TypeTable {
     }
 
     /// As `object_handles`, with the handles written to the front of a lent list (7). The answer is how many.
+    ///
+    /// ```
+    /// use yexwalu::{Handle, Refusal, TypeTable};
+    /// let mut table = TypeTable::new();
+    /// let access = table.access();
+    /// let mut out = [Handle::NULL; 4];
+    /// let n = table.object_handles_into(access, &7u64.to_le_bytes(), &mut out)?;
+    /// assert_eq!(out[..n], [Handle(7)]);
+    /// # Ok::<(), Refusal>(())
+    /// ```
     pub fn object_handles_into(&self, ty: TypeId, data: &[u8], out: &mut [Handle]) -> Result<usize, Refusal> {
         let answer = on_table!(self, yexwalu_object_handles(ty.into(), data.as_ptr(), data.len(), out.as_mut_ptr().cast(), out.len()));
         Refusal::check(answer.number)?;
@@ -343,6 +516,16 @@ impl TypeTable {
     }
 
     /// As `value_handles`, with the handles written to the front of a lent list (7). The answer is how many.
+    ///
+    /// ```
+    /// use yexwalu::{Handle, Refusal, TypeTable};
+    /// let mut table = TypeTable::new();
+    /// let access = table.access();
+    /// let mut out = [Handle::NULL; 4];
+    /// let n = table.value_handles_into(access, &7u64.to_le_bytes(), &mut out)?;
+    /// assert_eq!(out[..n], [Handle(7)]);
+    /// # Ok::<(), Refusal>(())
+    /// ```
     pub fn value_handles_into(&self, ty: TypeId, data: &[u8], out: &mut [Handle]) -> Result<usize, Refusal> {
         let answer = on_table!(self, yexwalu_value_handles(ty.into(), data.as_ptr(), data.len(), out.as_mut_ptr().cast(), out.len()));
         Refusal::check(answer.number)?;
@@ -375,6 +558,16 @@ impl TypeTable {
     }
 
     /// As `slot_roots`, with the handles and the addresses written to the front of lent lists (7). The answer is how many of each.
+    ///
+    /// ```
+    /// use yexwalu::{FrameSlot, Handle, Refusal, TypeTable};
+    /// let memory = [7u64, 0x7f40].map(u64::to_le_bytes).concat();
+    /// let map = [FrameSlot::handle(0), FrameSlot::address(8)];
+    /// let (mut handles, mut addresses) = ([Handle::NULL; 4], [0; 4]);
+    /// let (n, m) = TypeTable::new().slot_roots_into(&map, &memory, &mut handles, &mut addresses)?;
+    /// assert_eq!((&handles[..n], &addresses[..m]), (&[Handle(7)][..], &[0x7f40][..]));
+    /// # Ok::<(), Refusal>(())
+    /// ```
     pub fn slot_roots_into(&self, map: &[FrameSlot], memory: &[u8], handles: &mut [Handle], addresses: &mut [u64]) -> Result<(usize, usize), Refusal> {
         let map = FrameSlot::words(map);
         let answer = on_table!(self, yexwalu_slot_roots(
@@ -384,6 +577,17 @@ impl TypeTable {
     }
 
     /// No names: an empty line for each type, field and constant, as `write_text` takes them.
+    ///
+    /// ```
+    /// use yexwalu::{Refusal, TypeTable};
+    /// let mut table = TypeTable::new();
+    /// let real = table.real();
+    /// table.record(&[(real, None)]);
+    /// assert_eq!(table.no_names(), b"\n\n\n");
+    /// let text = table.write_text(&table.no_names())?;
+    /// assert_eq!(TypeTable::read_text(&text)?.0, table);
+    /// # Ok::<(), Refusal>(())
+    /// ```
     pub fn no_names(&self) -> Vec<u8> {
         vec![b'\n'; self.types.len() / 4 + self.fields.len() / 2 + self.consts.len() / 3]
     }
@@ -412,6 +616,16 @@ impl TypeTable {
     }
 
     /// As `write_text`, to the front of a lent output (7). The answer is how many bytes.
+    ///
+    /// ```
+    /// use yexwalu::{Refusal, TypeTable};
+    /// let mut table = TypeTable::new();
+    /// table.real();
+    /// let mut out = [0; 256];
+    /// let n = table.write_text_into(b"gain\n", &mut out)?;
+    /// assert_eq!(out[..n], table.write_text(b"gain\n")?);
+    /// # Ok::<(), Refusal>(())
+    /// ```
     pub fn write_text_into(&self, names: &[u8], out: &mut [u8]) -> Result<usize, Refusal> {
         let answer = on_table!(self, yexwalu_write_table(names.as_ptr(), names.len(), out.as_mut_ptr(), out.len()));
         Refusal::check(answer.number)?;
@@ -419,6 +633,15 @@ impl TypeTable {
     }
 
     /// The table whose text this is, and its names. It is refused where it is no such text (17), or the table is not in order (10).
+    ///
+    /// ```
+    /// use yexwalu::{Refusal, TypeTable};
+    /// let text = b"types,fields,constants\n1,0,0\nclass,a,b,c,name\n3,0,0,0,gain\ntype,constant,name\nplain,start,length,name\nbytes\n\n";
+    /// let (table, names) = TypeTable::read_text(text)?;
+    /// assert_eq!((table.layout(0, &[])?.size, &names[..]), (8, &b"gain\n"[..]));
+    /// assert_eq!(TypeTable::read_text(b"types"), Err(Refusal::Page));
+    /// # Ok::<(), Refusal>(())
+    /// ```
     pub fn read_text(text: &[u8]) -> Result<(TypeTable, Vec<u8>), Refusal> {
         // as much as a table takes at most; a byte of a constant takes two of the text
         let mut table = TypeTable {

@@ -21,6 +21,22 @@ use std::vec::IntoIter;
 /// # Ok::<(), Refusal>(())
 /// ```
 ///
+/// It has the heap's lists too:
+///
+/// ```
+/// use yexwalu::{Heap, Kind, Refusal, Slot};
+/// let mut heap = Heap::new(1, 64, 4096)?;
+/// let (first, second) = (heap.alloc(Kind::Bytes, b"first")?, heap.alloc(Kind::Bytes, b"second")?);
+/// heap.free(first)?;
+/// heap.recycle(&[])?;
+/// heap.seal()?;
+/// heap.free(second)?;
+/// let view = heap.view()?;
+/// assert_eq!((view.free(), view.quarantine(), view.retired()), (&[Slot(0)][..], &[Slot(1)][..], &[][..]));
+/// assert_eq!((view.sealed(), view.header().slots), (&[second][..], 2));
+/// # Ok::<(), Refusal>(())
+/// ```
+///
 /// As long as a view is used, no call changes the heap:
 ///
 /// ```compile_fail,E0502
@@ -50,6 +66,15 @@ pub struct View<'a> {
 
 impl Heap {
     /// Checks the heap, and lets all of it be read. Refused as every call is, by 18 and 1.
+    ///
+    /// ```
+    /// use yexwalu::{Heap, Kind, Refusal};
+    /// let mut heap = Heap::new(1, 64, 4096)?;
+    /// heap.alloc(Kind::Bytes, b"hall")?;
+    /// let bytes: usize = heap.view()?.objects().map(|object| object.bytes().len()).sum();
+    /// assert_eq!(bytes, 4);
+    /// # Ok::<(), Refusal>(())
+    /// ```
     pub fn view(&self) -> Result<View<'_>, Refusal> {
         // the cheapest question: what is wanted is that it is answered
         self.slots()?;
@@ -78,11 +103,31 @@ impl<'a> View<'a> {
     }
 
     /// The objects, by slot.
+    ///
+    /// ```
+    /// use yexwalu::{Heap, Kind, Refusal};
+    /// let mut heap = Heap::new(1, 64, 4096)?;
+    /// heap.alloc(Kind::Bytes, b"hall")?;
+    /// heap.alloc(Kind::Bytes, b"organ")?;
+    /// let longest = heap.view()?.objects().max_by_key(|object| object.bytes().len());
+    /// assert_eq!(longest.unwrap().bytes(), b"organ");
+    /// # Ok::<(), Refusal>(())
+    /// ```
     pub fn objects(&self) -> Objects<'a> {
         Objects { view: *self, next: 0 }
     }
 
     /// The object of a slot; none where the slot is not there or dead.
+    ///
+    /// ```
+    /// use yexwalu::{Heap, Kind, Refusal};
+    /// let mut heap = Heap::new(1, 64, 4096)?;
+    /// heap.alloc(Kind::Bytes, b"hall")?;
+    /// let view = heap.view()?;
+    /// assert_eq!(view.object(0).unwrap().bytes(), b"hall");
+    /// assert_eq!(view.object(1), None);
+    /// # Ok::<(), Refusal>(())
+    /// ```
     pub fn object(&self, slot: impl Into<Slot>) -> Option<ObjectRef<'a>> {
         let slot = slot.into();
         let i = slot.at();
@@ -105,6 +150,16 @@ impl<'a> View<'a> {
     }
 
     /// The object that a handle leads to. It is refused as by [`Heap::resolve`]: null (2), wrong heap (3), never issued (19), stale (4).
+    ///
+    /// ```
+    /// use yexwalu::{Handle, Heap, Kind, Refusal};
+    /// let mut heap = Heap::new(1, 64, 4096)?;
+    /// let hall = heap.alloc(Kind::Bytes, b"hall")?;
+    /// let view = heap.view()?;
+    /// assert_eq!(view.resolve(hall)?.data(), Some(&b"hall"[..]));
+    /// assert_eq!(view.resolve(Handle::NULL), Err(Refusal::Null));
+    /// # Ok::<(), Refusal>(())
+    /// ```
     pub fn resolve(&self, handle: Handle) -> Result<ObjectRef<'a>, Refusal> {
         if handle.is_null() {
             return Err(Refusal::Null);
@@ -150,6 +205,16 @@ impl<'a> IntoIterator for View<'a> {
 }
 
 /// The objects of a heap, by slot.
+///
+/// ```
+/// use yexwalu::{Heap, Kind, Refusal};
+/// let mut heap = Heap::new(1, 64, 4096)?;
+/// heap.alloc(Kind::Bytes, b"hall")?;
+/// let mut objects = heap.view()?.objects();
+/// assert_eq!(objects.next().unwrap().bytes(), b"hall");
+/// assert!(objects.next().is_none());
+/// # Ok::<(), Refusal>(())
+/// ```
 #[derive(Clone, Debug)]
 pub struct Objects<'a> {
     view: View<'a>,
@@ -178,6 +243,17 @@ impl<'a> Iterator for Objects<'a> {
 impl FusedIterator for Objects<'_> {}
 
 /// A live object of a heap that is read.
+///
+/// ```
+/// use yexwalu::{Heap, Kind, Refusal, Slot};
+/// let mut heap = Heap::new(1, 64, 4096)?;
+/// let line = heap.alloc_from(Kind::Bytes, 2, b"..hall")?;
+/// let object = heap.view()?.resolve(line)?;
+/// assert_eq!((object.slot(), object.handle(), object.kind()), (Slot(0), line, Kind::Bytes));
+/// assert_eq!((object.bytes(), object.start(), object.data()), (&b"..hall"[..], 2, Some(&b"hall"[..])));
+/// assert_eq!(object.stamp(), heap.stamp(0)?);
+/// # Ok::<(), Refusal>(())
+/// ```
 #[derive(Clone, Copy, Debug, PartialEq, Eq)]
 pub struct ObjectRef<'a> {
     tag: u8,
@@ -267,6 +343,15 @@ impl<'a> ObjectRef<'a> {
 }
 
 /// The handles that an object shows, in the order in which they are traced: [`ObjectRef::iter_handles`] has them.
+///
+/// ```
+/// use yexwalu::{Handle, Heap, Kind, Refusal, TypeTable};
+/// let mut heap = Heap::new(1, 64, 4096)?;
+/// let list = heap.alloc(Kind::Handles, &[0, 0, 0, 7, 8u64].map(u64::to_le_bytes).concat())?;
+/// let mut handles = heap.view()?.resolve(list)?.iter_handles(&TypeTable::new())?;
+/// assert_eq!((handles.len(), handles.next()), (2, Some(Handle(7))));
+/// # Ok::<(), Refusal>(())
+/// ```
 #[derive(Clone, Debug)]
 pub struct Handles<'a>(Shown<'a>);
 

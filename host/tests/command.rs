@@ -91,7 +91,7 @@ fn check_says_number_word_and_place() {
     }
     let second = page.find('\n').unwrap() + 1;
     let ran = run_with(&["check", "-"], &page.as_bytes()[..second + 6]);
-    assert_eq!(ran.out, "standard input: 17 page: no page from line 2, column 7 on\n");
+    assert_eq!(ran.out, "standard input: 17 page: no page from line 2, column 7 on, where it ends\n");
 }
 
 #[test]
@@ -362,6 +362,17 @@ fn convert_makes_a_new_file_or_none() {
     assert_eq!(convert(&new, &new).status, 2);
     assert_eq!(convert("-", &page).out, fs::read_to_string(&new).unwrap());
     fs::remove_file(&new).unwrap();
+    // -o - is standard output, also by a word that stands for it; a file of that name is ./-
+    let folder = PathBuf::from(&new).with_extension("dash");
+    fs::create_dir_all(&folder).unwrap();
+    let here = |to: &str| Command::new(env!("CARGO_BIN_EXE_yexwalu")).args(["convert", "--data", "-o", to, &page]).current_dir(&folder).output().unwrap();
+    let printed = here("-");
+    assert_eq!((printed.status.code(), fs::read_dir(&folder).unwrap().count()), (Some(0), 0));
+    let named = here("./-");
+    assert_eq!((named.status.code(), named.stdout), (Some(0), Vec::new()));
+    assert_eq!(fs::read(folder.join("-")).unwrap(), printed.stdout);
+    assert_eq!(String::from_utf8(here("./-").stderr).unwrap(), "yexwalu: ./-: is there already, and stays as it is\n");
+    fs::remove_dir_all(folder).unwrap();
     let nowhere = format!("{new}/none.page");
     let ran = convert(&nowhere, &page);
     assert!(ran.status == 2 && ran.out.is_empty() && ran.err.starts_with(&format!("yexwalu: {nowhere}: ")), "{}", ran.err);
@@ -610,16 +621,36 @@ fn progress_on_a_terminal() {
     fs::remove_file(path).unwrap();
 }
 
+const COMMANDS: [&str; 6] = ["check", "show", "same", "length", "convert", "shelf"];
+
 #[test]
 fn help_and_version() {
-    for words in [&["--help"][..], &["-h"], &["help"], &["check", "--help"], &["show", "--dot", "-h"]] {
+    let help = |words: &[&str]| {
         let ran = run(words);
         assert_eq!((ran.status, ran.err.as_str()), (0, ""), "{words:?}");
-        for command in ["check FILE..", "show FILE", "show --dot FILE", "length FILE", "convert --data FILE", "convert --planes FILE", "convert --planes -o NEW FILE", "shelf FILE..", "same FILE FILE", "same --types TABLE FILE FILE"] {
-            assert!(ran.out.contains(&format!("    yexwalu {command} ")), "{command}");
-        }
-        assert!(ran.out.contains("a hint"));
+        // a line has room on a terminal of 112 columns
+        assert!(ran.out.lines().all(|line| line.len() <= 112) && ran.out.ends_with('\n'), "{words:?}");
+        ran.out
+    };
+    let all = help(&["--help"]);
+    for words in [&["-h"][..], &["help"], &["help", "look"], &["look", "--help"], &["--help", "check"]] {
+        assert_eq!(help(words), all, "{words:?}");
     }
+    for command in COMMANDS {
+        assert!(all.contains(&format!("    yexwalu {command} ")), "{command}");
+        // of one command: that alone
+        let one = help(&[command, "--help"]);
+        assert!(one.starts_with(&format!("yexwalu {command} ")) && one != all, "{command}");
+        for words in [&["help", command][..], &[command, "-h"], &[command, "none", "--none", "--help"]] {
+            assert_eq!(help(words), one, "{words:?}");
+        }
+    }
+    // each option is told where it belongs
+    for (command, options) in [("show", &["--types TABLE", "--dot"][..]), ("same", &["--types TABLE", "--roots H,H..", "--roots-b H,H.."]), ("length", &["--data", "--planes"]), ("convert", &["--data", "--planes", "-o NEW", "-o -"])] {
+        let one = help(&[command, "--help"]);
+        assert!(options.iter().all(|option| one.contains(&format!("\n    {option} "))), "{one}");
+    }
+    assert!(help(&["check", "--help"]).contains("a hint"));
     let ran = run(&["--version"]);
     assert_eq!((ran.status, ran.out), (0, format!("yexwalu {}\n", env!("CARGO_PKG_VERSION"))));
 }
@@ -683,9 +714,133 @@ fn bad_usage_is_2() {
         assert_eq!((ran.status, ran.out.as_str()), (2, ""), "{words:?}");
         assert!(ran.err.starts_with("yexwalu: ") && ran.err.ends_with("yexwalu --help says more.\n"), "{words:?}");
     }
-    // a folder can't be read
-    let ran = run(&["check", &samples("deposit")]);
-    assert!(ran.status == 2 && ran.out.is_empty() && ran.err.starts_with("yexwalu: "), "{}", ran.err);
+}
+
+// Each command, with this file for its page.
+fn each_with(file: &str) -> Vec<Vec<&str>> {
+    let good = "../docs/samples/handles.page";
+    let ways = [&["check"][..], &["show"], &["show", "--dot"], &["same", good], &["same", "--types"], &["length"], &["length", "--planes"], &["convert", "--data"], &["convert", "--planes", "-o", "-"], &["shelf"]];
+    let with = |way: &[&'static str]| {
+        let mut words = [way, &[file]].concat();
+        if way.ends_with(&["--types"]) {
+            words.extend([good, good]);
+        }
+        words
+    };
+    ways.into_iter().map(with).collect()
+}
+
+#[test]
+fn what_cannot_be_read_is_2_and_is_named() {
+    let locked = file("locked.page", b"");
+    fs::set_permissions(&locked, std::os::unix::fs::PermissionsExt::from_mode(0)).unwrap();
+    let endless = file("endless.page", b"");
+    // nothing of it is on the disk
+    fs::File::options().write(true).open(&endless).unwrap().set_len(5 << 30).unwrap();
+    let folder = samples("deposit");
+    let mut files = vec![("none.page", "none.page", "No such file or directory"), ("", "''", "No such file or directory"), (&folder, &folder, "Is a directory"), (&endless, &endless, "longer than 4 GB, as no page is")];
+    if fs::File::open(&locked).is_err() {
+        files.push((&locked, &locked, "Permission denied"));
+    } else {
+        println!("whoever runs this may read every file: not tried");
+    }
+    for (name, shown, why) in files {
+        for words in each_with(name) {
+            let ran = run(&words);
+            let out = if words[0] == "shelf" { "page,answer,objects,bytes,largest,mean,rest\n1,17,0,0,0,0,0\n0,0,0,0,0,0,0\n" } else { "" };
+            assert_eq!(said(ran), (2, out.into(), format!("yexwalu: {shown}: {why}\n")), "{words:?}");
+        }
+    }
+    fs::remove_file(locked).unwrap();
+    fs::remove_file(endless).unwrap();
+}
+
+#[test]
+fn what_is_no_page_is_1_and_is_named() {
+    let page = fs::read_to_string(samples("handles.page")).unwrap();
+    let zeros = file("zeros.page", b"");
+    fs::File::options().write(true).open(&zeros).unwrap().set_len(100 << 20).unwrap();
+    let cases = [
+        (file("nothing.page", b""), "line 1, column 1 on, where it ends"),
+        (file("windows.page", page.replace('\n', "\r\n").as_bytes()), "line 1, column 74 on, where a line ends as on Windows: in bytes 13 and 10, not in 10 alone"),
+        (file("marked.page", format!("\u{feff}{page}").as_bytes()), "line 1, column 1 on, where a byte order mark stands"),
+        (file("unended.page", page.trim_end().as_bytes()), "line 14, column 8 on, where it ends"),
+        (file("twice.page", page.repeat(2).as_bytes()), "line 15, column 1 on"),
+        (file("noise.page", &[0xfe; 40]), "line 1, column 1 on"),
+        (samples("record.table"), "line 1, column 2 on: it begins as a type table does"),
+        (zeros, "line 1, column 1 on"),
+    ];
+    for (name, place) in &cases {
+        for words in each_with(name) {
+            // that is a question about the table
+            if words.contains(&"--types") {
+                continue;
+            }
+            let line = format!("{name}: 17 page: no page from {place}\n");
+            let expected = match words[0] {
+                "check" => says(1, &line),
+                "shelf" => says(1, "page,answer,objects,bytes,largest,mean,rest\n1,17,0,0,0,0,0\n0,0,0,0,0,0,0\n"),
+                _ => (1, String::new(), format!("yexwalu: {line}")),
+            };
+            assert_eq!(said(run(&words)), expected, "{words:?}");
+        }
+    }
+    let mine = cases.iter().filter(|(name, _)| name.contains(env!("CARGO_TARGET_TMPDIR")));
+    mine.for_each(|(name, _)| fs::remove_file(name).unwrap());
+}
+
+// One object of 6 MB: a line of 12.
+#[test]
+fn a_very_long_line() {
+    let mut heap = Heap::new(1, 2, 6 << 20).unwrap();
+    heap.alloc(Kind::Bytes, &vec![0x5a; 6 << 20]).unwrap();
+    let page = String::from_utf8(heap.write_page().unwrap()).unwrap();
+    let (good, bad) = (file("long.page", page.as_bytes()), file("long-bad.page", page.replace("5a\nfree", "5A\nfree").as_bytes()));
+    assert_eq!(said(run(&["check", &good])), says(0, &format!("{good}: accepted: writes64, data, retired\n")));
+    let shown = run(&["show", &good]);
+    assert!(shown.status == 0 && shown.out.lines().all(|line| line.len() < 200) && shown.out.ends_with("|ZZZZZZZZZZZZZZZZZZZZZZZZZZZZZZZZ| and 6291424 more\n"), "{}", shown.out);
+    let column = "1,2,0,0,0,".len() + 2 * (6 << 20);
+    assert_eq!(said(run(&["check", &bad])), says(1, &format!("{bad}: 17 page: no page from line 4, column {column} on\n")));
+    fs::remove_file(good).unwrap();
+    fs::remove_file(bad).unwrap();
+}
+
+// Standard input is read once; a file may stand several times.
+#[test]
+fn one_name_twice() {
+    let page = samples("handles.page");
+    for words in [&["check", "-", "-"][..], &["shelf", "-", &page, "-"], &["show", "--types", "-", "-"], &["same", "-", "-"], &["same", "--types", "-", "-", &page], &["check", "--", "-", "-"]] {
+        let expected = "yexwalu: standard input can be one of the files, not several\nyexwalu --help says more.\n";
+        assert_eq!(said(run_with(words, b"")), (2, String::new(), expected.into()), "{words:?}");
+    }
+    assert_eq!(run(&["check", &page, &page]).out, format!("{page}: accepted: writes64, data, retired\n").repeat(2));
+    assert_eq!(said(run(&["same", &page, &page])), says(0, "same\n"));
+    assert!(run(&["shelf", &page, &page]).out.ends_with("\n0,0,4,68,32,17,0\n"));
+}
+
+// `/dev/full` is a disk without room.
+#[cfg(target_os = "linux")]
+#[test]
+fn an_answer_that_cannot_be_written_is_2() {
+    let page = samples("handles.page");
+    for words in each_with(&page).into_iter().chain([vec!["--help"], vec!["--version"], vec!["check", "--help"]]) {
+        if words.contains(&"--types") {
+            continue;
+        }
+        let full = fs::File::options().write(true).open("/dev/full").unwrap();
+        let done = Command::new(env!("CARGO_BIN_EXE_yexwalu")).args(&words).stdout(full).output().unwrap();
+        assert_eq!((done.status.code(), String::from_utf8(done.stderr).unwrap().as_str()), (Some(2), "yexwalu: standard output: No space left on device\n"), "{words:?}");
+    }
+}
+
+// What would steer a terminal, or begin a line, is no part of what is said.
+#[test]
+fn a_name_with_a_line_end() {
+    let path = file("two\nlines\x1b[2J.page", b"no page");
+    let shown = path.replace(['\n', '\x1b'], "\u{fffd}");
+    assert_eq!(said(run(&["check", &path])), says(1, &format!("{shown}: 17 page: no page from line 1, column 1 on\n")));
+    assert_eq!(run(&["show", &path]).err, format!("yexwalu: {shown}: 17 page: no page from line 1, column 1 on\n"));
+    fs::remove_file(path).unwrap();
 }
 
 // After `--` each word is a file, whatever it begins with; `-` is standard input still.

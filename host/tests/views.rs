@@ -1,7 +1,7 @@
 //! A view says of every slot, every handle and every list what the calls say, and all objects of a large heap are read with one check.
 mod common;
 use common::{sample, Random};
-use yexwalu::{CheckedTable, Handle, Header, Heap, Kind, Memory, Refusal, Scratch, Slot, TypeTable};
+use yexwalu::{CheckedTable, Figures, Handle, Header, Heap, Kind, Memory, Refusal, Scratch, Slot, TypeTable};
 
 // A table with handles in it, and objects that fit it or not.
 fn table() -> TypeTable {
@@ -184,4 +184,27 @@ fn all_objects_of_a_type_by_a_large_table() {
     assert!(view.objects().all(|o| o.handles(&checked).unwrap() == [Handle(7)]));
     println!("{count} objects by {} types in {:?}", table.types.len() / 4, begin.elapsed());
     assert!(view.objects().step_by(1000).all(|o| o.handles(&table) == o.handles(&checked)));
+}
+
+// Totals are sums that stop at the last number of 64 bits, and the larger of the largest.
+#[test]
+fn figures_add_up() {
+    let mut random = Random::new(14);
+    let mut some = || {
+        let mut figures = Figures::default();
+        for number in [&mut figures.objects, &mut figures.bytes, &mut figures.largest] {
+            // of several widths
+            *number = random.word() >> (16 * random.below(4));
+        }
+        figures
+    };
+    let mut stopped = 0;
+    for _ in 0..10_000 {
+        let (a, b) = (some(), some());
+        let both = a.and(b);
+        assert_eq!((both.objects, both.bytes, both.largest), (a.objects.saturating_add(b.objects), a.bytes.saturating_add(b.bytes), a.largest.max(b.largest)));
+        assert_eq!((both, a.and(Figures::default())), (b.and(a), a));
+        stopped += u32::from(both.bytes == u64::MAX);
+    }
+    assert!(stopped > 100);
 }

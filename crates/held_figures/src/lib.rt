@@ -1,4 +1,4 @@
-// The figures of a heap that is known to be well formed, as in `held`, and the line that is printed of figures. The program `shelf` counts and prints with the same functions.
+// The figures of a heap that is known to be well formed, as in `held`, the totals over several, and the line that is printed of figures. The program `shelf` counts and prints with the same functions.
 #![tactic(auto)]
 
 ghost use Rattle.std.specs.Prelude.{◌≡◌, true, length};
@@ -8,7 +8,8 @@ ghost use Rattle.text.specs.Put.{put_text};
 ghost use Rattle.heap.specs.Lent.{view};
 ghost use Rattle.heap.specs.WellFormed.{well_formed};
 ghost use Rattle.held.specs.Held.{in_place};
-ghost use Rattle.figures.specs.Figures.{figures_of, figures_line};
+ghost use Rattle.figures.specs.Figures.{figures_of, merge, figures_line};
+ghost use Rattle.held_figures.specs.Totals.{in_words};
 
 use figures::Figures;
 use held::see;
@@ -32,6 +33,18 @@ pub fn yexwalu_held_figures(
 {
     let view = see(tag, numbers, log, lengths, narrow, wide, pool);
     figures::count(view.heap, view.narrow, view.wide, view.pool)
+}
+
+// The totals over the pages before, and the figures of one page more.
+// Kept: `Figures::merged` requires sums that have 64 bits, which the figures that a host keeps need not have.
+pub fn yexwalu_held_figures_and(total: Figures, page: Figures) -> Figures
+    ensures { result ≡ in_words (merge total page) }
+{
+    Figures {
+        objects: total.objects.saturating_add(page.objects),
+        bytes: total.bytes.saturating_add(page.bytes),
+        largest: total.largest.max(page.largest),
+    }
 }
 
 // Puts the line of a page, or the last line, at the front of the output. First: its length. No line is longer than 160 bytes.

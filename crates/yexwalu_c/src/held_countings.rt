@@ -6,7 +6,8 @@ ghost use Rattle.text.specs.Put.{put_text};
 ghost use Rattle.heap.specs.Lent.{view};
 ghost use Rattle.heap.specs.WellFormed.{well_formed};
 ghost use Rattle.held.specs.Held.{in_place};
-ghost use Rattle.figures.specs.Figures.{figures_of, figures_line};
+ghost use Rattle.figures.specs.Figures.{figures_of, merge, figures_line};
+ghost use Rattle.held_figures.specs.Totals.{in_words};
 
 use figures::Figures;
 use refusal::Answer;
@@ -26,6 +27,13 @@ pub extern "C" fn yexwalu_held_figures(
         (view (in_place tag.now numbers.now log.now lengths.now narrow.now wide.now pool.now)).slots }
 {
     held_figures::yexwalu_held_figures(tag, numbers, log, lengths, narrow, wide, pool)
+}
+
+#[unsafe(no_mangle)]
+pub extern "C" fn yexwalu_held_figures_and(total: Figures, page: Figures) -> Figures
+    ensures { result ≡ in_words (merge total page) }
+{
+    held_figures::yexwalu_held_figures_and(total, page)
 }
 
 #[unsafe(no_mangle)]

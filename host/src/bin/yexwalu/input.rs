@@ -2,11 +2,13 @@
 use std::ffi::OsStr;
 use std::fs::File;
 use std::io::{self, IsTerminal, Read, Write};
-use std::path::Path;
 
 // From so many bytes on a person is told that it goes on.
 const LARGE: usize = 4 << 20;
 const PIECE: u64 = 1 << 20;
+
+// No page is longer: it has at most 256 bytes, 96 a slot and 2 a byte of data, of the most slots and bytes that a heap has.
+const LONGEST: u64 = 1 << 32;
 
 /// The bytes of a file, and its name for people.
 pub struct Text {
@@ -14,12 +16,25 @@ pub struct Text {
     bytes: Vec<u8>,
 }
 
+/// Text as it can stand in a line on a terminal: what would steer the terminal is left out of it.
+pub fn plain(text: &str) -> String {
+    text.chars().map(|c| if c.is_control() { char::REPLACEMENT_CHARACTER } else { c }).collect()
+}
+
 /// A file's name for people.
 pub fn shown(name: &OsStr) -> String {
-    if name == "-" {
-        return "standard input".into();
+    match name.to_string_lossy().as_ref() {
+        "-" => "standard input".into(),
+        "" => "''".into(),
+        name => plain(name),
     }
-    Path::new(name).display().to_string()
+}
+
+/// The system's words for what failed, without the number that stands behind them: numbers are those of refusals here.
+pub fn words(why: &io::Error) -> String {
+    let text = why.to_string();
+    let number = why.raw_os_error().map(|n| format!(" (os error {n})"));
+    number.and_then(|n| text.strip_suffix(&n)).unwrap_or(&text).into()
 }
 
 // A line that is written over and over, on a terminal alone.
@@ -32,6 +47,10 @@ fn tell(line: &str) {
     }
 }
 
+fn too_long() -> io::Error {
+    io::Error::other("longer than 4 GB, as no page is")
+}
+
 impl Text {
     /// All of a file, or of standard input.
     pub fn read(name: &OsStr) -> io::Result<Text> {
@@ -39,19 +58,31 @@ impl Text {
             return Text::read_from(shown(name), io::stdin().lock(), None);
         }
         let file = File::open(name)?;
-        let size = file.metadata()?.len();
-        Text::read_from(shown(name), file, Some(size))
+        let about = file.metadata()?;
+        // a pipe has no size
+        let size = about.is_file().then(|| about.len());
+        if size > Some(LONGEST) {
+            return Err(too_long());
+        }
+        Text::read_from(shown(name), file, size)
     }
 
     fn read_from(name: String, mut from: impl Read, size: Option<u64>) -> io::Result<Text> {
         let of = size.map(|s| format!(" of {}", s >> 20)).unwrap_or_default();
         let mut bytes = Vec::new();
-        while from.by_ref().take(PIECE).read_to_end(&mut bytes)? > 0 {
-            if bytes.len() >= LARGE {
-                tell(&format!("{name}: {}{of} MB read", bytes.len() >> 20));
+        let done = loop {
+            match from.by_ref().take(PIECE).read_to_end(&mut bytes) {
+                Ok(0) => break Ok(()),
+                Ok(_) if bytes.len() as u64 > LONGEST => break Err(too_long()),
+                Ok(_) if bytes.len() >= LARGE => tell(&format!("{name}: {}{of} MB read", bytes.len() >> 20)),
+                Ok(_) => {}
+                Err(why) => break Err(why),
             }
+        };
+        if bytes.len() >= LARGE {
+            tell("");
         }
-        Ok(Text { name, bytes })
+        done.map(|()| Text { name, bytes })
     }
 
     pub fn bytes(&self) -> &[u8] {

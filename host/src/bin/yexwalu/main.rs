@@ -1,5 +1,6 @@
 //! The command for archivists: what a page holds, and whether it is one. It rests on the calls of the library; here stand only the reading of files and the printing.
 mod dot;
+mod help;
 mod input;
 mod same;
 mod seen;
@@ -14,57 +15,6 @@ use std::io::{self, BufWriter, ErrorKind, Write};
 use std::process::ExitCode;
 use types::Types;
 use yexwalu::{page_stops, Column, Figures, Form, Handle, Heap, Refusal};
-
-const HELP: &str = "\
-Questions about pages: the heaps of saved VHDL runs as text (docs/FORMAT.md).
-
-    yexwalu check FILE..        is each file a page of a heap, and of which form?
-    yexwalu show FILE           a summary, the objects, the handles in them and where they lead
-    yexwalu show --dot FILE     the same as a graph for Graphviz: yexwalu show --dot FILE | dot -Tsvg > FILE.svg
-    yexwalu show --types TABLE FILE     by the run's type table, so that the handles of typed objects are found too
-    yexwalu length FILE         how many bytes the heap's page has when it is written today; --planes: with byte planes
-    yexwalu convert --data FILE         the page in the form of today, with objects as they are
-    yexwalu convert --planes FILE       the same with objects in byte planes
-    yexwalu convert --planes -o NEW FILE    into a file that is not there yet
-    yexwalu shelf FILE..        figures of each page, and of all of them together
-    yexwalu same FILE FILE      do two pages hold the same model, under whatever slot numbers? And which comes first?
-    yexwalu same --types TABLE FILE FILE        by the run's type table, so that typed objects are compared too
-    yexwalu same --roots H,H.. --roots-b H,H.. FILE FILE    from these handles on, of the first page and of the second
-    yexwalu --help, --version
-
-FILE is a page; - is standard input. After -- each word is a FILE, also one that begins with -: yexwalu check -- -old.page
-Answers go to standard output, errors to standard error.
-Exit status: 0 yes, and done; 1 refused, and different; 2 bad usage, or a file that can't be read or written.
-
-check says `accepted` and the page's form, or the number and the word of the refusal:
-    accepted: writes64, data, retired       the names by which forms differ (docs/FORMAT.md, section 14): writes64 or
-                    writes, data or planes, and retired where the page has that list
-    17 page         the text is no page. The line and the column say where it stops being one. They are a hint,
-                    found by a second reader that is not proved; the number is the proved reader's
-    1 broken heap   the text is a page, but what it shows is no heap (docs/FORMAT.md, section 8)
-    5 full, 6 no room   more slots or more data than a heap can have
-
-show finds the handles in objects of kind Handles. Where those of an object of a type stand is said by the run's type
-table (docs/FORMAT.md, section 6): without --types such an object is shown by its bytes alone.
-
-convert reads a page of any form and writes the page of the same heap in the form of today, with writes64 and retired.
-The choice between data and planes is yours: planes pack better where neighbouring numbers differ little.
-
-shelf prints page,answer,objects,bytes,largest,mean,rest: a line a file, numbered from 1, and a last line with page 0
-over all accepted ones, as the program `shelf` does for pages of at most 32,768 bytes (docs/FORMAT.md, section 16).
-
-same compares what the roots of the two pages lead to, object by object (docs/FORMAT.md, section 18):
-    same                nothing differs but slot numbers, generations, write counts, and what no root leads to
-    different: less     the first page comes before the second in the order of heaps
-    different: greater  it comes after it
-A page does not have its run's roots. Where none are given, its sealed handles are the roots: the objects that were there
-when the simulation began, in slot order, as a rule the order in which they were made. --roots gives those of the first
-page, --roots-b those of the second, as decimals with commas between them (`show` prints the handles of a page); the k-th
-of the one goes with the k-th of the other. A page that has nothing sealed needs them. A root that leads nowhere, a seal
-of an object that is gone too, goes with the same number that leads nowhere. Refused with
-    13 untraceable      an object that a root leads to can't be traced: it is of a type, and no --types was given, or the
-                        table is that of another run
-";
 
 // How a run ended: the exit status.
 const NO: u8 = 1;
@@ -102,7 +52,7 @@ fn opened(name: &OsStr) -> Option<(Text, Opened)> {
             Some((text, heap))
         }
         Err(why) => {
-            say!("yexwalu: {}: {why}", input::shown(name));
+            say!("yexwalu: {}: {}", input::shown(name), input::words(&why));
             None
         }
     }
@@ -117,12 +67,23 @@ fn heap_of(name: &OsStr) -> Result<Heap, u8> {
     })
 }
 
+// What often happens to a file, where it is what stands at the place.
+fn found(text: &[u8], at: usize) -> &'static str {
+    match text.get(at) {
+        None => ", where it ends",
+        Some(b'\r') => ", where a line ends as on Windows: in bytes 13 and 10, not in 10 alone",
+        Some(0xef) if at == 0 => ", where a byte order mark stands",
+        _ if text.starts_with(b"types,fields,constants\n") => ": it begins as a type table does",
+        _ => "",
+    }
+}
+
 fn verdict(name: &OsStr, text: &Text, answer: Result<Form, Refusal>) -> String {
     let name = input::shown(name);
     match answer {
         Ok(form) => format!("{name}: accepted: {form}"),
         Err(why @ Refusal::Page) => match page_stops(text.bytes()) {
-            Some(place) => format!("{name}: {}: no page from {place} on", refusal(why)),
+            Some(place) => format!("{name}: {}: no page from {place} on{}", refusal(why), found(text.bytes(), place.offset)),
             None => format!("{name}: {}", refusal(why)),
         },
         Err(why) => format!("{name}: {}", refusal(why)),
@@ -194,7 +155,7 @@ fn types_of(name: Option<&OsStr>) -> Result<Types, u8> {
     };
     let say = |why: String| say!("yexwalu: {}: {why}", input::shown(name));
     let text = Text::read(name).map_err(|why| {
-        say(why.to_string());
+        say(input::words(&why));
         USAGE
     })?;
     Types::read(text.bytes()).map_err(|why| {
@@ -225,8 +186,7 @@ fn created(name: &OsStr, bytes: &[u8]) -> Result<(), u8> {
         done.inspect_err(|_| drop(fs::remove_file(name)))
     });
     written.map_err(|why| {
-        // the system's words have a number of their own in them, which is none of the refusals
-        let why = if why.kind() == ErrorKind::AlreadyExists { "is there already, and stays as it is".into() } else { why.to_string() };
+        let why = if why.kind() == ErrorKind::AlreadyExists { "is there already, and stays as it is".into() } else { input::words(&why) };
         say!("yexwalu: {}: {why}", input::shown(name));
         USAGE
     })
@@ -331,8 +291,11 @@ fn command(words: &[OsString], out: &mut Out) -> io::Result<u8> {
     let Some((name, rest)) = words.split_first() else {
         return usage("no command");
     };
-    if words.iter().take_while(|w| *w != "--").any(|w| w == "--help" || w == "-h") || name == "help" {
-        heard(write!(out, "{HELP}"))?;
+    let asked = words.iter().take_while(|w| *w != "--").any(|w| w == "--help" || w == "-h");
+    if asked || name == "help" {
+        // `yexwalu help show` and `yexwalu show --help` are the same
+        let about = if name == "help" { rest.first() } else { Some(name) };
+        heard(write!(out, "{}", help::of(&about.map_or("".into(), |name| name.to_string_lossy()))))?;
         return Ok(0);
     }
     let name = name.to_string_lossy();
@@ -346,7 +309,7 @@ fn command(words: &[OsString], out: &mut Out) -> io::Result<u8> {
         ("check" | "shelf", _) if files.is_empty() => usage(&format!("{name} takes files")),
         ("show" | "length" | "convert", _) if files.len() != 1 => usage(&format!("{name} takes one file")),
         ("same", _) if files.len() != 2 => usage("same takes two files"),
-        ("same", _) if files.iter().copied().chain(options.table).filter(|name| *name == "-").count() > 1 => usage("standard input can be one of the files"),
+        _ if files.iter().copied().chain(options.table).filter(|name| *name == "-").count() > 1 => usage("standard input can be one of the files, not several"),
         ("convert", None) => usage("convert takes --data or --planes"),
         ("check", _) => check(files, out),
         ("shelf", _) => shelf(files, out),
@@ -365,7 +328,7 @@ fn main() -> ExitCode {
     match status {
         Ok(status) => ExitCode::from(status),
         Err(why) => {
-            say!("yexwalu: standard output: {why}");
+            say!("yexwalu: standard output: {}", input::words(&why));
             ExitCode::from(USAGE)
         }
     }

@@ -1,4 +1,5 @@
 //! The type table that objects are shown by, where one is given.
+use crate::input::plain;
 use crate::seen::Object;
 use yexwalu::{CheckedTable, Handle, Heap, Kind, Refusal, TypeId, TypeTable};
 
@@ -16,7 +17,7 @@ impl Types {
         let (table, names) = TypeTable::read_text(text)?;
         let types = names.split(|b| *b == b'\n').take(table.types.len() / 4);
         Ok(Types {
-            names: types.map(|name| String::from_utf8_lossy(name).into_owned()).collect(),
+            names: types.map(|name| plain(&String::from_utf8_lossy(name))).collect(),
             table: Some(table.checked()?),
         })
     }

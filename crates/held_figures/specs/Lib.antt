@@ -1,0 +1,2 @@
+-- Totals in words of 64 bits.
+pub mod Totals
