@@ -17,7 +17,7 @@ use Rattle.trace.specs.Places.{words_at, kind_places, handles_of}
 use Rattle.heap.specs.State.{State, slot_at, live, bit, times}
 use Rattle.heap.specs.Calls.{member, done}
 use Rattle.heap.proofs.Sound.{Sound}
-use Rattle.heap_calls.specs.Pins.{marked_slots}
+use Rattle.heap_calls.specs.Inner.Marks.{marked_slots}
 use Rattle.heap_calls.proofs.Marked.{mark-there}
 use Rattle.reach.specs.Reach.{Graph, Starts, First, Next, Reached, UntraceableFrom, ◌∈◌}
 use Rattle.reach.specs.Marking.{State as Marks, marking}

@@ -24,7 +24,8 @@ use Rattle.collection.specs.Swept.{goes, dropped, drop_slots, live_size, drop_un
 use Rattle.collection.specs.Shown.{shown}
 use Rattle.collection.specs.Collected.{found, graph, starts, swept_by, collected}
 use Rattle.collection.specs.Joined.{values_of, root_registers, Pinning, pins_at, joined}
-use Rattle.collection.specs.Demand.{Survived, Collects}
+use Rattle.collection.specs.Demand.{Survived}
+use Rattle.collection.specs.Inner.Collects.{Collects}
 use Rattle.collection.proofs.Answers.{not-both}
 use Rattle.collection.proofs.Dropping.{dropped-none}
 use Rattle.collection.proofs.SweptLaws.{resolved_live, swept-sealed}

@@ -14,7 +14,8 @@ use Rattle.trace.specs.Inner.Emit.{Answer, Raw, raw_of, Into, into, emit_all, em
 use Rattle.trace.specs.declared.Sink.TheVariants.{Check, List as ToList}
 use Rattle.trace.proofs.Emits.{ok-inj, told-traced, told-untraceable}
 use Rattle.trace.proofs.ListLaws.{checked-short, checked-fits, listed}
-use Rattle.frame.specs.Listing.{roots_listing, Frames}
+use Rattle.frame.specs.Listing.{roots_listing}
+use Rattle.frame.specs.Inner.Frames.{Frames}
 
 -- what a trace that succeeds or fails says of the words
 from-ok : {P : Type 0} (k : Into) (s t : Raw) (o : Option (List ℕ)) → ok t ≡ emitting k s o → ((ws : List ℕ) → o ≡ some ws → t ≡ emit_all k s ws → P) → P

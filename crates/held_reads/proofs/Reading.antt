@@ -16,11 +16,13 @@ use Rattle.trace.specs.Listing.{Lists, written_to}
 use Rattle.heap.specs.Lent.{Lent, view}
 use Rattle.heap.specs.Inner.Seen.{seen, state}
 use Rattle.heap.specs.declared.view.View.{View}
-use Rattle.door.specs.HeapCalls.{admitted, ready, Entered, asked_of}
+use Rattle.door.specs.HeapCalls.{admitted, ready, asked_of}
+use Rattle.door.specs.Inner.Entered.{Entered}
 use Rattle.door.proofs.Entering.{fails, passes, ask-refused, ask-ready, whether-not, whether-ready}
 use Rattle.pages.specs.Form.{written}
 use Rattle.pages.specs.Page.{page_text}
-use Rattle.pages.specs.Answer.{PageWritten, text_answer, text_out}
+use Rattle.pages.specs.Answer.{text_answer, text_out}
+use Rattle.pages.specs.Inner.PageWritten.{PageWritten}
 use Rattle.slot_door.specs.SlotHandles.{slot_handles}
 use Rattle.held_reads.specs.Slot.{table_tests, held_slot_call, slot_out}
 

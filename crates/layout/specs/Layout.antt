@@ -12,10 +12,6 @@ use Rattle.layout.specs.declared.Layout.{Layout}
 abbrev pub Lay : Type 0
 Lay = Result Layout Refusal
 
--- a layout with how many offsets were written, or why there is none
-abbrev pub Answer : Type 0
-Answer = Result (Layout × ℕ) Refusal
-
 -- the positions of an array's dimensions, or why there are none
 abbrev pub Dims : Type 0
 Dims = Result ℕ Refusal

@@ -5,7 +5,7 @@ use Rattle.word.specs.Result.{Result, ok, refused}
 use Rattle.ty.specs.Types.{Ty, Ty.missing, Ty.int, Ty.physical, Ty.enum, Ty.real, Ty.array, Ty.fields, Ty.access, Ty.file, Ty.protected, Field, Field.field, Table, type_at}
 use Rattle.ty.specs.Words.{word_of, on_word, round_up}
 use Rattle.refusal.specs.Told.{number_of}
-use Rattle.layout.specs.Layout.{Lay, Answer, under, used_by, layout_at, layout_of}
+use Rattle.layout.specs.Layout.{Lay, under, used_by, layout_at, layout_of}
 use Rattle.layout.specs.declared.Layout.{Layout}
 
 abbrev pub if_laid : Lay → (Layout → List ℕ) → List ℕ
@@ -47,11 +47,6 @@ pub record Values : Type 0 where
 
 abbrev pub values : Layout → ℕ → Values
 values l k = record { size = l.size; align = l.align; stride = l.stride; count = l.count; used = l.used; offsets = k }
-
--- each answer's number and values
-abbrev pub told : Answer → Result Values
-told (Ok (l, k)) = ok (values l k)
-told (Err e) = refused (number_of e)
 
 -- a layout with k offsets asked of a list of so many places
 abbrev pub listed_in : Lay → ℕ → ℕ → Result Values

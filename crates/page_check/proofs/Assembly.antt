@@ -13,7 +13,8 @@ use native.Mathlib.Omega.{arith}
 use Rattle.word.specs.Lists.{all}
 use Rattle.word.proofs.ListLaws.{all_append}
 use Rattle.text.specs.Text.{give, read_literal}
-use Rattle.text.specs.Format.{Format, Right, number, pair, times, after_literal, mapped, read_all}
+use Rattle.text.specs.Format.{Format, number, pair, times, after_literal, mapped, read_all}
+use Rattle.text.specs.Inner.Right.{Right}
 use Rattle.text.proofs.Laws.{times-right, number-right}
 use Rattle.text.proofs.Getting.{suffix}
 use Rattle.heap.specs.State.{Slot, State, data_size}

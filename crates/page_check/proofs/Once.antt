@@ -11,7 +11,7 @@ use lib.Seq.{drop-drop}
 use native.Mathlib.Omega.{arith}
 use native.Mathlib.Nat.{zero-add, add-zero, sub-zero}
 use borrow.Author.Tests.{ne_eqb}
-use Rattle.word.specs.Bit as word
+use Rattle.word.specs.Inner.Bit as word
 use Rattle.word.proofs.Bools.{and-false, and_assoc}
 use Rattle.word.proofs.BitLaws.{bit-of-zero}
 use Rattle.word.proofs.ListLaws.{get_or-zeros}

@@ -40,7 +40,8 @@ use Rattle.page_check.specs.declared.Sections.{Sections}
 use Rattle.std.specs.Prelude as code
 use Rattle.std.specs.Prelude.{Ok, Err}
 use Rattle.page_reader.specs.Inner.Columns.{worn_in, stay_free, retire, ages, Below, with_numbers, with_parted, with_lists, NumbersFilled, FreeParted, ListsFilled, Roomy}
-use Rattle.page_reader.specs.Reading.{in_range, read_into, PageRead}
+use Rattle.page_reader.specs.Reading.{in_range, read_into}
+use Rattle.page_reader.specs.Inner.PageRead.{PageRead}
 use Rattle.heap.specs.Sizes.{sizes_fit}
 use Rattle.heap.proofs.Sizes.{sizes-tested}
 use Rattle.page_reader.proofs.Loading.{padded}

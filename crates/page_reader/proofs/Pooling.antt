@@ -11,7 +11,8 @@ use native.Mathlib.Nat.{sub-zero}
 use Rattle.text.specs.Text.{give, hex, newline, read_hex}
 use Rattle.text.specs.Format.{read_all}
 use Rattle.text.specs.Inner.Answer.{hex_at, HexParsed}
-use Rattle.text.specs.Put.{put_text, Puts}
+use Rattle.text.specs.Put.{put_text}
+use Rattle.text.specs.Inner.Puts.{Puts}
 use Rattle.text.proofs.Laws.{hex-forth, hex-length}
 use Rattle.text.proofs.Putting.{puts-puts, puts-at, puts_none}
 use Rattle.heap.specs.State.{Slot, data_of, data_size}

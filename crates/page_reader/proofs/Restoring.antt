@@ -11,7 +11,8 @@ use Rattle.word.proofs.PutLaws.{drop-put, mid-put, put_all}
 use lib.Seq.{take_all}
 use Rattle.planes.specs.Planes.{restored}
 use Rattle.planes.proofs.Laws.{length-restored}
-use Rattle.text.specs.Put.{put_text, Puts}
+use Rattle.text.specs.Put.{put_text}
+use Rattle.text.specs.Inner.Puts.{Puts}
 use Rattle.text.proofs.Putting.{puts-at, puts-length}
 use Rattle.pages.specs.Form.{from_column}
 

@@ -2,7 +2,8 @@
 #![tactic(auto)]
 
 ghost use Rattle.std.specs.Prelude.{◌≡◌, map, ◌+◌, ◌-◌, ◌*◌, ◌/◌, ◌^◌, ◌≤◌, ◌<◌, length, replicate, if◌then◌else◌};
-ghost use Rattle.text.specs.Put.{put_text, Puts};
+ghost use Rattle.text.specs.Put.{put_text};
+ghost use Rattle.text.specs.Inner.Puts.{Puts};
 ghost use Rattle.text.specs.Inner.Answer.{hex_at};
 ghost use Rattle.pages.specs.Form.{writes_width, from_column};
 ghost use Rattle.pages.specs.Page.{out_of_column};
@@ -13,7 +14,7 @@ ghost use Rattle.page_check.specs.Inner.Filling.{slots_at};
 ghost use Rattle.heap.specs.Lent.{lent, header_of, stored};
 ghost use Rattle.page_check.specs.Sections.{heap_in, brought_in};
 ghost use Rattle.page_reader.specs.Inner.Columns.{NumbersFilled, Below, PutIn, FreeParted, ListsFilled, Roomy};
-ghost use Rattle.page_reader.specs.Reading.{PageRead};
+ghost use Rattle.page_reader.specs.Inner.PageRead.{PageRead};
 
 use heap::{Changed, Heap};
 use page_check::lines::Lines;

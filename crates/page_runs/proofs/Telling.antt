@@ -16,7 +16,8 @@ use Rattle.word.specs.Result.{Result, ok, refused}
 use Rattle.heap.specs.Calls.{done}
 use Rattle.word.proofs.PutLaws.{take_put}
 use Rattle.text.specs.Text.{newline, decimal, line}
-use Rattle.text.specs.Put.{put_text, Puts}
+use Rattle.text.specs.Put.{put_text}
+use Rattle.text.specs.Inner.Puts.{Puts}
 use Rattle.text.proofs.Laws.{digits-few}
 use Rattle.text.proofs.Putting.{puts-puts}
 use Rattle.refusal.specs.Told.{answered, here, nothing}

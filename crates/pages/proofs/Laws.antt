@@ -8,7 +8,8 @@ use mathlib.Core.Logic.{◌↔◌}
 use native.Mathlib.Omega.{arith}
 use lib.ListN.{length, length-map}
 use Rattle.text.specs.Text.{give, ◌>>=◌, ascii, line, newline, comma, Bytes, digit_of, read_literal}
-use Rattle.text.specs.Format.{Right, number, bytes_line, after_literal, either, always, pair, times, mapped, read_all, All}
+use Rattle.text.specs.Format.{number, bytes_line, after_literal, either, always, pair, times, mapped, read_all, All}
+use Rattle.text.specs.Inner.Right.{Right}
 use Rattle.text.proofs.Laws.{none-not-some, bind-some, some_inj, number-right, bytes-line-right, after-literal-right, Any, Apart, either-right, always-right, pair-right, times-right, mapped-where, mapped-right, injective}
 use Rattle.heap.specs.State.{Slot, State, slot_at, worn}
 use Rattle.std.specs.Prelude.{if◌then◌else◌}

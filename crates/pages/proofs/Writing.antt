@@ -9,7 +9,7 @@ use native.Mathlib.Omega.{arith}
 use native.Mathlib.Numerals.{add-one}
 use Rattle.text.specs.Text.{decimal, hex, line}
 use Rattle.word.proofs.ListLaws.{length-tabulate, get_d_tabulate}
-use Rattle.text.specs.Put.{Puts}
+use Rattle.text.specs.Inner.Puts.{Puts}
 use Rattle.text.proofs.Laws.{hex-length}
 use Rattle.text.proofs.Putting.{puts-puts, puts-at}
 use Rattle.heap.specs.State.{Slot}

@@ -7,7 +7,7 @@ use Rattle.word.specs.Lists.{tabulate}
 use Rattle.word.specs.Put.{put}
 use Rattle.word.proofs.LeLaws.{length-bytes}
 use Rattle.text.specs.Text.{hex}
-use Rattle.text.specs.Put.{Puts}
+use Rattle.text.specs.Inner.Puts.{Puts}
 use Rattle.text.proofs.Putting.{puts_none, puts-puts, puts-at, hex-append, puts-length, put-mid-put}
 use Rattle.text.proofs.Laws.{hex-length}
 use Rattle.word.proofs.ListLaws.{rest}

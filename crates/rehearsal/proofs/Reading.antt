@@ -8,7 +8,8 @@ use mathlib.Core.Path.{◌≡◌, refl, ap, ◌∙◌}
 use mathlib.Core.Logic.{◌↔◌}
 use lib.ListN.{length, length-append}
 use Rattle.text.specs.Text.{Reader, give, ◌>>=◌, ascii, comma, newline, line, digit_of, read_literal}
-use Rattle.text.specs.Format.{Right, All, number, bytes_line, pair}
+use Rattle.text.specs.Format.{All, number, bytes_line, pair}
+use Rattle.text.specs.Inner.Right.{Right}
 use Rattle.text.proofs.Laws.{none-not-some, bind-some, some_inj, literal-forth, literal-back, number-right, pair-right}
 use Rattle.script.specs.Script.{alloc_format}
 use Rattle.script.proofs.Reading.{alloc-right}

@@ -25,7 +25,8 @@ use Rattle.rehearsal_steps.specs.Inner.Going.{going_on, InOrder, Short, Cleared,
 use Rattle.rehearsal_steps.specs.Inner.Steps.{doing_in}
 use Rattle.rehearsal_steps.proofs.Placed.{not-ended}
 use Rattle.rehearsal_line.proofs.Leading.{led-line}
-use Rattle.rehearsal_runs.specs.Runs.{or_none, lines_of, run_of, Begun}
+use Rattle.rehearsal_runs.specs.Runs.{or_none, lines_of, run_of}
+use Rattle.rehearsal_runs.specs.Inner.Runs.{Begun}
 
 -- lists of the same lengths
 pub record Sizes (n₀ n₁ w₀ w₁ p₀ p₁ a₀ a₁ m₀ m₁ k₀ k₁ : List ℕ) : Type 0 where

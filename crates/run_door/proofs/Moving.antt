@@ -18,7 +18,8 @@ use Rattle.heap.specs.State.{State}
 use Rattle.heap.specs.Lent.{Lent, view, slot_count, pool_size}
 use Rattle.heap.specs.Calls.{Changed, refuse, on_slot, resolve, take_slot, free, recycle, seal as sealed}
 use Rattle.heap.specs.WellFormed.{well_formed}
-use Rattle.heap.specs.Done.{Leaves, Tells}
+use Rattle.heap.specs.Done.{Leaves}
+use Rattle.heap.specs.Inner.Tells.{Tells}
 use Rattle.heap.proofs.Storing.{view-stored}
 use Rattle.heap.proofs.Sound.{Sound}
 use Rattle.heap.proofs.Keeping.{take-sound}

@@ -12,7 +12,7 @@ use Rattle.std.specs.Prelude.{if◌then◌else◌}
 use Rattle.word.specs.Result.{Result, ok, refused}
 use Rattle.word.proofs.PutLaws.{take_put}
 use Rattle.text.specs.Text.{ascii}
-use Rattle.text.specs.Put.{Puts}
+use Rattle.text.specs.Inner.Puts.{Puts}
 use Rattle.text.specs.Inner.Wrote.{Wrote}
 use Rattle.text.specs.declared.output.Out.{Out}
 use Rattle.text.proofs.Putting.{puts-puts}

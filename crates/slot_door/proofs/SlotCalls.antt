@@ -32,7 +32,8 @@ use Rattle.mark.specs.Inner.Graph.{Fit, graph_in, shown_in}
 use Rattle.mark.specs.Inner.Objects.{Laid, laid, laid_in}
 use Rattle.mark.specs.declared.objects.Objects.{Objects}
 use Rattle.mark.proofs.Formed.{formed-fit, formed-graph}
-use Rattle.door.specs.HeapCalls.{test, heap_tests, Entered, asked}
+use Rattle.door.specs.HeapCalls.{test, heap_tests, asked}
+use Rattle.door.specs.Inner.Entered.{Entered}
 use Rattle.door.specs.HeapCalls.{Entry}
 use Rattle.door.specs.HeapCalls.{ready}
 use Rattle.door.proofs.Entering.{and-holds, and-fails, and-more, ask-refused, ask-ready, whether-not, whether-ready}

@@ -29,7 +29,8 @@ use Rattle.heap.specs.Inner.Seen.{seen, state}
 use Rattle.heap.specs.declared.view.View.{View}
 use Rattle.trace.specs.Listing.{listing, Lists}
 use Rattle.collection.specs.Shown.{shown}
-use Rattle.door.specs.HeapCalls.{Entered, asked, asked_of, scratch_after, zeros}
+use Rattle.door.specs.HeapCalls.{asked, asked_of, scratch_after, zeros}
+use Rattle.door.specs.Inner.Entered.{Entered}
 use Rattle.door.specs.HeapCalls.{Entry}
 use Rattle.door.specs.HeapCalls.{ready}
 use Rattle.door.proofs.Entering.{whether-not, whether-ready, cleared-in}

@@ -8,7 +8,8 @@ use mathlib.Core.Path.{◌≡◌, sym, ap, ◌∙◌, subst}
 use lib.ListN.{length, drop, length-append, length-drop, drop_of_length-le}
 use native.Mathlib.Omega.{arith}
 use Rattle.text.specs.Text.{give, read_field, read_literal, read_hex, hex, newline, Bytes}
-use Rattle.text.specs.Format.{Right, pair, after_literal, bytes_line}
+use Rattle.text.specs.Format.{pair, after_literal, bytes_line}
+use Rattle.text.specs.Inner.Right.{Right}
 use Rattle.text.specs.Inner.Answer.{value_answer, hex_answer, hex_at}
 use Rattle.std.specs.Prelude.{Option, Some, None}
 use Rattle.text.proofs.Laws.{hex-back, hex-length}

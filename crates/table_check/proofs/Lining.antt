@@ -12,7 +12,8 @@ use native.Mathlib.Nat.{mul-le-mul_left, mul-suc}
 use Rattle.text.specs.Text.{give, read_field, read_literal}
 use Rattle.text.specs.Format.{read_all, pair, times, after_literal, All}
 use Rattle.text.specs.Inner.Answer.{value_answer}
-use Rattle.text.specs.Put.{put_text, Puts}
+use Rattle.text.specs.Put.{put_text}
+use Rattle.text.specs.Inner.Puts.{Puts}
 use Rattle.std.specs.Prelude.{Option, Some, None}
 use Rattle.text.proofs.Laws.{none-not-some, some_inj, times-right}
 use Rattle.text.proofs.Getting.{suffix, answer-some, answer-none}

@@ -7,7 +7,8 @@ use lib.ListN.{length, take, drop, length-append}
 use native.Mathlib.Omega.{arith}
 use Rattle.text.specs.Text.{give, read_field}
 use Rattle.text.specs.Format.{read_all}
-use Rattle.text.specs.Put.{put_text, Puts}
+use Rattle.text.specs.Put.{put_text}
+use Rattle.text.specs.Inner.Puts.{Puts}
 use Rattle.text.proofs.Laws.{none-not-some}
 use Rattle.text.proofs.Putting.{puts-puts, puts-at, puts_none}
 use Rattle.tables.specs.Table.{Row, name_text, read_name, row_format}

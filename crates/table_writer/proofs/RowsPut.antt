@@ -9,7 +9,7 @@ use native.Mathlib.Numerals.{add-one}
 use native.Mathlib.Nat.{mul-le-mul_left, mul-suc}
 use Rattle.text.specs.Text.{give}
 use Rattle.text.specs.Format.{read_all}
-use Rattle.text.specs.Put.{Puts}
+use Rattle.text.specs.Inner.Puts.{Puts}
 use Rattle.text.proofs.Laws.{none-not-some}
 use Rattle.text.proofs.Putting.{puts-puts, puts-at, puts_none}
 use Rattle.tables.specs.Table.{read_name, field, row_line}

@@ -9,7 +9,8 @@ use lib.Seq.{take_at, drop_at, length-take-le}
 use native.Mathlib.Omega.{arith}
 use native.Mathlib.Nat.{mul-suc}
 use Rattle.text.specs.Text.{give, ◌>>=◌, Bytes}
-use Rattle.text.specs.Format.{Right, pair, times, All}
+use Rattle.text.specs.Format.{pair, times, All}
+use Rattle.text.specs.Inner.Right.{Right}
 use Rattle.text.proofs.Laws.{bind-some, some_inj, pair-right, times-right}
 use Rattle.pages.specs.Page.{whole}
 use Rattle.pages.proofs.Laws.{whole-some}

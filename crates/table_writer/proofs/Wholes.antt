@@ -14,7 +14,7 @@ use native.Mathlib.Nat.{mul-suc, zero-add}
 use borrow.Author.Tests.{leb-true, eqb-true}
 use Rattle.text.specs.Text.{give, ◌>>=◌, decimal, hex, line, newline, comma}
 use Rattle.text.specs.Format.{read_all, pair, times}
-use Rattle.text.specs.Put.{Puts}
+use Rattle.text.specs.Inner.Puts.{Puts}
 use Rattle.text.proofs.Laws.{times-right, hex-length}
 use Rattle.pages.specs.Page.{whole}
 use Rattle.tables.specs.Table.{read_name, field, name_text, name_format, row_line, count_names, type_names, field_names, constant_names, bytes_name, counts_line, table_text}
@@ -28,8 +28,8 @@ use Rattle.tables.specs.Lists.{Names, names_format, rows_of, with_names, named_i
 use Rattle.tables.specs.Inner.Answer.{GotAll, names_at}
 use Rattle.tables.proofs.Laws.{name-right}
 use Rattle.tables.proofs.Rowing.{flat_append}
-use Rattle.table_writer.specs.Inner.Parts.{NamesFound, NamesGot, named, rest_length, Ready}
-use Rattle.table_writer.specs.Writing.{table_in, writing, leaving, TableWritten}
+use Rattle.table_writer.specs.Inner.Parts.{NamesFound, NamesGot, named, rest_length, Ready, TableWritten}
+use Rattle.table_writer.specs.Writing.{table_in, writing, leaving}
 use Rattle.table_writer.specs.declared.NamesRead.{NamesRead}
 use Rattle.table_writer.proofs.RowsPut.{names-are}
 

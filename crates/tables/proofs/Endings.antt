@@ -8,7 +8,8 @@ use lib.ListN.{length, drop, length-drop, length-append}
 use native.Mathlib.Omega.{arith}
 use native.Mathlib.Nat.{sub-zero}
 use Rattle.text.specs.Text.{give, ◌>>=◌, Reader}
-use Rattle.text.specs.Format.{Format, Right, read_all}
+use Rattle.text.specs.Format.{Format, read_all}
+use Rattle.text.specs.Inner.Right.{Right}
 use Rattle.text.proofs.Laws.{none-not-some, some_inj}
 use Rattle.text.proofs.Getting.{suffix}
 use Rattle.std.specs.Prelude.{Option, Some, None}

@@ -8,7 +8,7 @@ use native.Mathlib.Omega.{arith}
 use native.Mathlib.Nat.{mul-suc}
 use Rattle.text.specs.Text.{decimal, comma}
 use Rattle.text.specs.Format.{All}
-use Rattle.text.specs.Put.{Puts}
+use Rattle.text.specs.Inner.Puts.{Puts}
 use Rattle.text.proofs.Laws.{decimal-length}
 use Rattle.text.proofs.Putting.{puts-at, puts_none}
 use Rattle.pages.proofs.Writing.{flat-more-length, flat-room, puts-more}

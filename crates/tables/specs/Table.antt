@@ -128,12 +128,6 @@ table_format =
 abbrev pub named_of : Counts × Body → Named
 named_of p = record { types = p.1.0; fields = p.1.1.0; constants = p.1.1.1.0; bytes = p.1.1.1.1 }
 
-abbrev pub saved : Named → Counts × Body
-saved d = (
-  (length d.types, (length d.fields, length d.constants)),
-  (d.types, (d.fields, (d.constants, d.bytes))),
-)
-
 -- the table whose text a text is, if it is one's
 unfoldable pub read_table : List ℕ → Option Named
 read_table t = table_format.read t >>= λ r. whole r >>= λ p. some (named_of p)

@@ -1,5 +1,5 @@
 -- A format: how values of a type are printed, and how they are read back with the rest of the text. Formats are put together from smaller ones.
-use Rattle.std.specs.Prelude.{ℕ, zero, suc, ◌-◌, ◌^◌, ◌≡◌, Bool, true, false, if◌then◌else◌}
+use Rattle.std.specs.Prelude.{ℕ, zero, suc, ◌-◌, ◌^◌, Bool, true, false, if◌then◌else◌}
 use mathlib.Core.List.{List, [], ◌∷◌, ◌++◌, flat_map}
 use Rattle.std.proofs.Math.Option.{Option, none, some}
 use Rattle.text.specs.Text.{Reader, give, ◌>>=◌, newline, decimal, hex, read_field, read_hex, read_literal}
@@ -7,12 +7,6 @@ use Rattle.text.specs.Text.{Reader, give, ◌>>=◌, newline, decimal, hex, read
 pub record Format (A : Type 0) : Type 0 where
   pub print : A → List ℕ
   pub read : Reader A
-
--- what makes a format right for the values that are `good`: reading what was printed gives the value back and the rest of the text,
--- and what was read was printed from just that value
-pub record Right {A : Type 0} (f : Format A) (good : A → Type 0) : Type 0 where
-  pub forth : (a : A) (rest : List ℕ) → good a → f.read (f.print a ++ rest) ≡ give a rest
-  pub back : (t : List ℕ) (a : A) (rest : List ℕ) → f.read t ≡ give a rest → good a × (f.print a ++ rest ≡ t)
 
 -- a number of a width in bits, and the byte after it
 unfoldable pub number : (width end : ℕ) → Format ℕ

@@ -1,5 +1,5 @@
 -- Text as a list of byte values: names, decimal numbers without spare zeros, lowercase hexadecimal, lines of fields; and the readers of these.
-use Rattle.std.specs.Prelude.{ℕ, zero, suc, ◌+◌, ◌-◌, ◌*◌, ◌/◌, ◌%◌, ◌<◌, List, [], ◌∷◌, ◌++◌, Bool, true, false, ◌&&◌, ◌≡◌, ltb, leb, eqb, if◌then◌else◌}
+use Rattle.std.specs.Prelude.{ℕ, zero, suc, ◌+◌, ◌-◌, ◌*◌, ◌/◌, ◌%◌, ◌<◌, List, [], ◌∷◌, ◌++◌, Bool, true, false, ◌&&◌, ltb, leb, eqb, if◌then◌else◌}
 use Prim.Native.Char.{code}
 use Prim.Native.String as text
 use Prim.Native.String.{String}
@@ -67,11 +67,6 @@ give a rest = some (a, rest)
 -- the digit that a byte is
 unfoldable pub digit_of : ℕ → Option ℕ
 digit_of b = if leb 48 b && leb b 57 then some (b - 48) else none
-
--- a text that does not go on with a digit
-unfoldable pub Stops : List ℕ → Type 0
-Stops [] = Unit
-Stops (b ∷ bs) = digit_of b ≡ none
 
 unfoldable pub ends : List ℕ → Bool
 ends [] = true

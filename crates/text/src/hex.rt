@@ -3,7 +3,7 @@ ghost use Rattle.std.specs.Prelude.{◌≡◌, ◌≢◌, ◌+◌, ◌≤◌, �
 ghost use Rattle.std.proofs.Math.Option.{none};
 ghost use Rattle.text.specs.Text.{read_hex};
 ghost use Rattle.text.specs.Inner.Answer.{hex_at};
-ghost use Rattle.text.specs.Put.{Puts};
+ghost use Rattle.text.specs.Inner.Puts.{Puts};
 
 // A text, where it begins to spell bytes, and how many they are.
 #[derive(Clone, Copy)]

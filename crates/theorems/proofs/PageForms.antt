@@ -9,7 +9,8 @@ use Rattle.std.specs.Prelude.{if◌then◌else◌}
 use Rattle.refusal.specs.declared.Answer.{Answer}
 use Rattle.word.proofs.Bools.{true-false}
 use Rattle.text.specs.Text.{give, ◌>>=◌, ascii, newline}
-use Rattle.text.specs.Format.{Right, number, always, after_literal, pair, times}
+use Rattle.text.specs.Format.{number, always, after_literal, pair, times}
+use Rattle.text.specs.Inner.Right.{Right}
 use Rattle.text.proofs.Laws.{bind-some, some_inj, always-right, after-literal-right, pair-right, times-right}
 use Rattle.heap.specs.State.{State}
 use Rattle.pages.specs.Form.{Form, form_of, writes_width, written, earlier, heap_front, no_retired, heap_names, slot_front, narrow_writes, data_name, slot_names, free_name, quarantine_name, sealed_name}

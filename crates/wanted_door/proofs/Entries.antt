@@ -16,7 +16,8 @@ use Rattle.ty.specs.Check.{table_good}
 use Rattle.heap.specs.Lent.{Lent, view, slot_count}
 use Rattle.heap_calls.specs.Pins.{rising}
 use Rattle.trace.specs.Listing.{Lists, written_to}
-use Rattle.door.specs.HeapCalls.{test, enough, heap_tests, zeros, Entered, asked, asked_of}
+use Rattle.door.specs.HeapCalls.{test, enough, heap_tests, zeros, asked, asked_of}
+use Rattle.door.specs.Inner.Entered.{Entered}
 use Rattle.door.specs.HeapCalls.{Entry}
 use Rattle.door.specs.HeapCalls.{ready}
 use Rattle.door.proofs.Entering.{and-holds, and-fails, and-more, holding, marks-zero, work-zero, ask-refused, ask-ready, whether-not, whether-ready, zeros-again, zeros-room}

@@ -32,7 +32,7 @@ use Rattle.mark.specs.Inner.Scratch.{high}
 use Rattle.mark.specs.Inner.Told.{starts_of, Ready}
 use Rattle.mark.proofs.Draining.{first-clear}
 use Rattle.mark.proofs.Formed.{formed-fit, formed-few, formed-count, formed-graph, generation-same}
-use Rattle.wanted.specs.Way.{those}
+use Rattle.wanted.specs.Inner.Picked.{those}
 use Rattle.wanted.specs.Search.{noted, searched}
 use Rattle.wanted.specs.Outcome.{handle_at}
 use Rattle.wanted.proofs.Flags.{rises, those-in}

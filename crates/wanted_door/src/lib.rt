@@ -7,10 +7,11 @@ ghost use Rattle.ty.specs.View.{lent as table_in};
 ghost use Rattle.heap.specs.Lent.{lent};
 ghost use Rattle.heap.specs.Inner.Seen.{seen, state};
 ghost use Rattle.trace.specs.Listing.{Lists};
-ghost use Rattle.door.specs.HeapCalls.{Entered, entry_of, asked};
+ghost use Rattle.door.specs.HeapCalls.{asked};
+ghost use Rattle.door.specs.Inner.Entered.{Entered, entry_of};
 ghost use Rattle.mark.specs.Inner.Scratch.{high};
 ghost use Rattle.wanted.specs.Search.{noted};
-ghost use Rattle.wanted.specs.Way.{those};
+ghost use Rattle.wanted.specs.Inner.Picked.{those};
 ghost use Rattle.wanted_door.specs.Inner.Listing.{CanName, CanSearch, named_in};
 ghost use Rattle.wanted_door.specs.RootsFor.{root_handles, wanted_tests, roots_call, roots_out, RightRoots};
 

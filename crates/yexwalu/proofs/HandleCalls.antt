@@ -10,7 +10,8 @@ use Rattle.refusal.specs.declared.Answer.{Answer}
 use Rattle.refusal.specs.Told.{Reply}
 use Rattle.ty.specs.Check.{table_good}
 use Rattle.trace.specs.Listing.{Lists, written_to}
-use Rattle.frame.specs.Listing.{Roots, Frames, handles_to, addresses_to}
+use Rattle.frame.specs.Listing.{Roots, handles_to, addresses_to}
+use Rattle.frame.specs.Inner.Frames.{Frames}
 use Rattle.yexwalu.specs.Table.{on_table}
 use Rattle.yexwalu.specs.Handles.{HandlesCall, RootsCall}
 use Rattle.yexwalu.proofs.TableCalls.{table-bad, table-good}

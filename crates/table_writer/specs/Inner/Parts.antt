@@ -10,6 +10,10 @@ use Rattle.tables.specs.Lists.{names_format, with_names}
 use Rattle.tables.specs.Inner.Answer.{names_at}
 use Rattle.table_writer.specs.declared.NamesRead.{NamesRead}
 use Rattle.std.specs.Prelude.{Option, Some, None}
+use Rattle.word.specs.Result.{Result}
+use Rattle.refusal.specs.Told.{told, answered, here, nothing}
+use Rattle.refusal.specs.Told.{Reply}
+use Rattle.table_writer.specs.Writing.{writing, leaving}
 
 -- the names of t types stand from the front of `names`, of f fields from a on, of c constants from b on, and nothing more
 pub record NamesFound (names : List ℕ) (t f c a b : ℕ) : Type 0 where
@@ -42,3 +46,7 @@ pub record Ready (w f c b names : List ℕ) (x y : ℕ) (room : ℕ) : Type 0 wh
   pub fields : 2 * (length f / 2) ≡ length f
   pub constants : 3 * (length c / 3) ≡ length c
   pub fits : length (table_text (named w f c b names x y)) ≤ room
+
+pub record TableWritten (t : Result Named) (before after : List ℕ) (r : Reply) : Type 0 where
+  pub answer : told r ≡ answered here nothing (writing t before)
+  pub out : after ≡ leaving t before

@@ -6,7 +6,7 @@ use Rattle.ty.specs.View.{table_of}
 use Rattle.heap.specs.Lent.{Lent, lent, view}
 use Rattle.heap.specs.Inner.Seen.{seen}
 use Rattle.trace.specs.Listing.{Lists}
-use Rattle.door.specs.HeapCalls.{entry_of}
+use Rattle.door.specs.Inner.Entered.{entry_of}
 use Rattle.wanted_door.specs.Inner.Listing.{CanSearch}
 use Rattle.wanted_door.specs.RootsFor.{root_handles}
 use Rattle.wanted_door.proofs.Entries.{can-search, roots-refused, roots-done}
