@@ -35,7 +35,8 @@ use Rattle.script.proofs.Refusing.{Numbered, alloc-numbered, free-numbered}
 use Rattle.run_door.specs.Run.{run_tests, run_call}
 use Rattle.heap.proofs.Storing.{stored-count, stored-room}
 use Rattle.page_runs.specs.declared.Run.{Run}
-use Rattle.page_runs.specs.Inner.Steps.{Lies, Good, Ran}
+use Rattle.page_runs.specs.Inner.Steps.{Ran}
+use Rattle.page_runs.specs.Steps.{Lies, Good}
 
 -- ---- a call keeps the heap sound, and is not refused with 0
 

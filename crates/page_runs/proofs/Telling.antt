@@ -39,7 +39,8 @@ use Rattle.page_runs.specs.declared.At.{At}
 use Rattle.page_runs.specs.declared.At.TheVariants.{Names, Lines, Over}
 use Rattle.page_runs.specs.declared.Run.{Run}
 use Rattle.page_runs.specs.Printed.{names_line, shown_by, shown, after_names}
-use Rattle.page_runs.specs.Inner.Steps.{text_left, Lies, Short, Ran, Says, Ends}
+use Rattle.page_runs.specs.Inner.Steps.{Ran, Says}
+use Rattle.page_runs.specs.Steps.{text_left, Lies, Short, Ends}
 use Rattle.page_runs.proofs.Naming.{literal-short}
 use Rattle.page_runs.proofs.Starting.{names-length}
 

@@ -25,7 +25,8 @@ use Rattle.shelves.specs.declared.At.{At}
 use Rattle.shelves.specs.declared.At.TheVariants.{Line, Page as InPage, Passing, Over}
 use Rattle.shelves.specs.declared.Shelf.{Shelf}
 use Rattle.shelves.specs.Shelf.{length_line, cut_off, by_line, pages_in, shown, answers_in, answers_of, answer_line, answer_lines, accepted, names_line, last_line, shelf_text}
-use Rattle.shelves.specs.Inner.Steps.{left_at, printed, text_left, GoodAt, Good, most_at, Due, After, Answers, Begun, Ends, is_cut_off}
+use Rattle.shelves.specs.Inner.Steps.{Due, After, Answers, is_cut_off}
+use Rattle.shelves.specs.Steps.{left_at, printed, text_left, GoodAt, Good, most_at, Begun, Ends}
 use Rattle.shelves.proofs.Taking.{bytes-short, over-short}
 
 -- one page more: a refused one adds zeros

@@ -8,7 +8,7 @@ use Rattle.figures.specs.Figures.{merge, total, figures_line}
 use Rattle.shelves.specs.declared.At.TheVariants.{Over}
 use Rattle.shelves.specs.declared.Shelf.{Shelf}
 use Rattle.shelves.specs.Shelf.{whole, pages_in, answers_of, answer_lines, accepted, names_line, last_line, shelf_text}
-use Rattle.shelves.specs.Inner.Steps.{Goes, Begun, Ends}
+use Rattle.shelves.specs.Steps.{Goes, Begun, Ends}
 
 -- ---- the last line
 
