@@ -23,8 +23,8 @@ use Rattle.collection.specs.Inner.Collects.{Collects, Joins}
 use Rattle.collection.proofs.Answers.{two-answers}
 use Rattle.collection.proofs.Demand.{collect-demand, collected-by, collected-sound}
 use Rattle.collection.specs.Shown.{shown}
-use Rattle.collection.specs.Joined.{root_registers, values_of, Pinning, pins_at, joined}
-use Rattle.collection.specs.JoinedDemand.{JoinedStarts}
+use Rattle.collection.specs.Joined.{root_registers, values_of, pins_at, joined}
+use Rattle.collection.specs.JoinedDemand.{Pinning, JoinedStarts}
 use Rattle.collection.proofs.Pinned.{same-members}
 use Rattle.collection.proofs.SweptLaws.{swept-pins}
 use Rattle.collection.proofs.Registers.{joined-starts}

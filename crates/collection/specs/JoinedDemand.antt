@@ -9,7 +9,12 @@ use Rattle.addresses.specs.Listed.{Listed}
 use Rattle.reach.specs.Reach.{Starts, UntraceableFrom, ◌∈◌}
 use Rattle.collection.specs.Collected.{graph}
 use Rattle.collection.specs.Shown.{shown}
-use Rattle.collection.specs.Joined.{Pinning}
+
+-- What pins (request [4]): the pins that are given, the list of addresses with their slots, and the addresses of the frame.
+pub record Pinning : Type 0 where
+  pub given : List ℕ
+  pub listed : List ℕ
+  pub framed : List ℕ
 
 -- x is the value of a register of this class that is live before instruction pc: some walk from there reads the register before writing it
 pub record LiveValue (of : ℕ) (f : Function) (pc : ℕ) (values : List ℕ) (x : ℕ) : Type 0 where

@@ -16,7 +16,7 @@ use Rattle.heap.proofs.Placing.{count-is, pool-long}
 use Rattle.heap.proofs.Storing.{view-stored}
 use Rattle.door.specs.HeapCalls.{Outcome, outcome, enough}
 use Rattle.door.proofs.Entering.{is-enough}
-use Rattle.pages.specs.Page.{read_page}
+use Rattle.pages.specs.Reading.{read_page}
 use Rattle.page_check.specs.Sections.{form_in, verdict}
 use Rattle.page_reader.specs.Reading.{bits_met, names_met, in_range, Left, left, read_into}
 use Rattle.page_reader.proofs.Loaded.{in-range, passed, few-numbers}

@@ -4,7 +4,7 @@ use mathlib.Core.List.{List, [], ◌∷◌, map, foldr}
 use Rattle.word.specs.Result.{Result, ok, ◌>>=◌}
 use Rattle.text.specs.Text.{decimal, line}
 use Rattle.heap.specs.State.{Slot, live}
-use Rattle.pages.specs.Page.{read_page}
+use Rattle.pages.specs.Reading.{read_page}
 use Rattle.page_check.specs.Sections.{verdict}
 use Rattle.figures.specs.declared.Figures.{Figures}
 

@@ -8,7 +8,8 @@ use Rattle.word.proofs.ListLaws.{all-at, at_all, below_at, at-below, same-tested
 use Rattle.heap.specs.Packing.{flat}
 use Rattle.heap.specs.State.{Slot, State, no_slot, slot_at, data_of, live, last_generation, worn, bit, times}
 use Rattle.heap.specs.Lent.{Lent, columns, stored, view, slot_count, pool_size}
-use Rattle.heap.specs.WellFormed.{sound_slot, places, partitioned, retired_rightly, sound_seals, sound_reclaim, sound, fits, same_header, same_lent, well_formed}
+use Rattle.heap.specs.WellFormed.{sound_slot, places, partitioned, retired_rightly, sound_seals, sound_reclaim, sound, fits, well_formed}
+use Rattle.heap.specs.Same.{same_header, same_lent}
 use Rattle.heap.specs.declared.Heap.{Heap}
 use Rattle.heap.proofs.Sound.{SlotSound, Sound, WellFormed, live_bit}
 use Rattle.heap.proofs.Counting.{times-append, times-member}

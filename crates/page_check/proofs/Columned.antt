@@ -8,8 +8,7 @@ use Rattle.word.specs.Lists.{all}
 use Rattle.heap.specs.State.{Slot, data_of, data_size, times}
 use Rattle.heap.specs.Packing.{flat}
 use Rattle.heap.specs.WellFormed.{sound_slot}
-use Rattle.pages.specs.Form.{from_column}
-use Rattle.pages.specs.Page.{out_of_column}
+use Rattle.pages.specs.Reading.{from_column, out_of_column}
 use Rattle.pages.proofs.Writing.{back-length}
 use Rattle.page_check.specs.Inner.Partition.{right, each}
 use Rattle.page_check.specs.declared.Rule.{Rule}

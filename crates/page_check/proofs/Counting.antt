@@ -13,7 +13,7 @@ use native.Mathlib.Numerals.{add-one}
 use borrow.Author.Tests.{eq-eqb, ne_eqb, eqb-true, eqb-false}
 use Rattle.word.proofs.Bools.{true-false}
 use Rattle.rows.specs.Inner.Row.{bit_in}
-use Rattle.text.specs.Text.{give, Reader, ◌>>=◌, digit_of, read_field}
+use Rattle.text.specs.Reading.{give, Reader, ◌>>=◌, digit_of, read_field}
 use Rattle.text.specs.Format.{number, read_all}
 use Rattle.text.specs.Inner.Answer.{value_answer}
 use Rattle.std.specs.Prelude.{Option, Some, None}

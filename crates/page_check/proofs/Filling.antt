@@ -11,7 +11,7 @@ use lib.ListN.{length, drop, get_or, length-drop, drop_of_length-le, replicate}
 use lib.Seq.{drop-cons}
 use native.Mathlib.Omega.{arith}
 use native.Mathlib.Numerals.{add-one}
-use Rattle.text.specs.Text.{give, Reader, ◌>>=◌}
+use Rattle.text.specs.Reading.{give, Reader, ◌>>=◌}
 use Rattle.text.specs.Format.{read_all}
 use Rattle.text.proofs.Laws.{bind-some, some_inj, none-not-some}
 use Rattle.heap.specs.State.{Slot}

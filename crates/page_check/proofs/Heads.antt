@@ -7,12 +7,12 @@ use mathlib.Core.Option.{none}
 use mathlib.Core.Path.{◌≡◌, sym, ap, ◌∙◌}
 use lib.ListN.{length, drop, length-drop}
 use native.Mathlib.Omega.{arith}
-use Rattle.text.specs.Text.{give, read_field}
+use Rattle.text.specs.Reading.{give, read_field}
 use Rattle.text.specs.Format.{number, always, pair}
 use Rattle.text.specs.Inner.Answer.{value_answer}
 use Rattle.std.specs.Prelude.{Option, Some, None}
 use Rattle.text.proofs.Getting.{answer-none, both-same}
-use Rattle.pages.specs.Page.{Head, sealed_end, retired_count, head_format}
+use Rattle.pages.specs.Reading.{Head, sealed_end, retired_count, head_format}
 use Rattle.page_check.proofs.Reading.{comma-found, comma-none}
 use Rattle.page_check.proofs.Lists.{value_found, value_none}
 use Rattle.page_check.specs.Inner.Answer.{head_answer}

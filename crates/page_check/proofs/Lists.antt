@@ -11,7 +11,7 @@ use native.Mathlib.Omega.{arith}
 use native.Mathlib.Numerals.{add-one}
 use Rattle.word.specs.Lists.{all}
 use Rattle.word.proofs.Bools.{and-true, and_assoc}
-use Rattle.text.specs.Text.{give, ◌>>=◌, digit_of, read_field}
+use Rattle.text.specs.Reading.{give, ◌>>=◌, digit_of, read_field}
 use Rattle.text.specs.Format.{number, read_all}
 use Rattle.text.specs.Inner.Answer.{value_answer}
 use Rattle.std.specs.Prelude.{Option, Some, None}

@@ -10,7 +10,8 @@ use Rattle.text.specs.Format.{after_literal, either, pair}
 use Rattle.text.specs.Inner.Answer.{literal_answer, value_answer}
 use Rattle.std.specs.Prelude.{Option, Some, None}
 use Rattle.text.proofs.Getting.{literal-found, literal-lost, value-found, answer-none}
-use Rattle.pages.specs.Form.{names, slot_front, wide_writes, narrow_writes, planes_name, data_name, slot_named}
+use Rattle.pages.specs.Form.{slot_front, wide_writes, narrow_writes, planes_name, data_name}
+use Rattle.pages.specs.Reading.{names, slot_named}
 use Rattle.pages.proofs.Laws.{writes-right, columns-right}
 use Rattle.page_check.specs.Inner.Parts.{NamesFound, NamesRead}
 use Rattle.page_check.specs.declared.SlotNames.{SlotNames}

@@ -16,11 +16,11 @@ use Rattle.word.proofs.Bools.{and-false, and_assoc}
 use Rattle.word.proofs.BitLaws.{bit-of-zero}
 use Rattle.word.proofs.ListLaws.{get_or-zeros}
 use Rattle.rows.specs.Inner.Row.{bit_in}
-use Rattle.text.specs.Text.{give, Reader, ◌>>=◌}
+use Rattle.text.specs.Reading.{give, Reader, ◌>>=◌}
 use Rattle.text.specs.Format.{read_all, times}
 use Rattle.text.proofs.Laws.{bind-some, some_inj, times-right}
 use Rattle.heap.specs.State.{Slot, bit}
-use Rattle.pages.specs.Page.{slot_format}
+use Rattle.pages.specs.Reading.{slot_format}
 use Rattle.heap.specs.State as wf
 use Rattle.pages.proofs.Laws.{slot-right}
 use Rattle.page_check.specs.Inner.Partition.{values_at, marked, Marked, expected, right, agree, each}

@@ -9,12 +9,13 @@ use Rattle.std.specs.Prelude.{Option, Some, None}
 use lib.Dec.{ltb}
 use lib.ListN.{length, drop}
 use Rattle.word.specs.Lists.{all}
-use Rattle.text.specs.Text.{give, read_literal}
+use Rattle.text.specs.Text.{read_literal}
+use Rattle.text.specs.Reading.{give}
 use Rattle.text.specs.Format.{always, after_literal, times, read_all, number}
 use Rattle.text.proofs.Laws.{some_inj}
 use Rattle.heap.specs.WellFormed.{sound_seals, sound_reclaim}
 use Rattle.pages.specs.Form.{free_name, quarantine_name, sealed_name, retired_name}
-use Rattle.pages.specs.Page.{head_format, retired_format, read_page}
+use Rattle.pages.specs.Reading.{head_format, retired_format, read_page}
 use Rattle.pages.proofs.Laws.{head-right, Count-good}
 use Rattle.page_check.specs.Inner.Answer.{head_answer}
 use Rattle.page_check.specs.Inner.Parts.{numbers_of, heap_named, HeadFound, HeadSectioned, SlotsFound, SlotSectioned, ListFound, ListSectioned, RetiredFound, RetiredSectioned, sections_of}

@@ -12,7 +12,8 @@ use lib.Dec.{leb}
 use borrow.Author.Tests.{le-leb}
 use Rattle.word.specs.Lists.{all}
 use Rattle.word.proofs.Bools.{and-true, and_assoc}
-use Rattle.text.specs.Text.{give, Reader, decimal, ◌>>=◌, digit_of, read_field, read_hex}
+use Rattle.text.specs.Text.{decimal}
+use Rattle.text.specs.Reading.{give, Reader, ◌>>=◌, digit_of, read_field, read_hex}
 use Rattle.text.specs.Format.{number, bytes_line, pair, mapped, read_all}
 use Rattle.text.specs.Inner.Answer.{value_answer}
 use Rattle.std.specs.Prelude.{Option, Some, None}
@@ -24,7 +25,7 @@ use Rattle.page_check.specs.declared.SlotRead.{SlotRead}
 use Rattle.heap.specs.State.{Slot, last_generation, data_of, data_size}
 use Rattle.heap.specs.Packing.{flat}
 use Rattle.pages.specs.Form.{writes_width}
-use Rattle.pages.specs.Page.{slot_format, fields_of}
+use Rattle.pages.specs.Reading.{slot_format, fields_of}
 use Rattle.pages.specs.Inner.Columns.{slot}
 use Rattle.page_check.specs.declared.SlotLines.{SlotLines}
 use Rattle.page_check.specs.Inner.Answer.{slot_answer, slots_answer, slots_more, lines_of, sound_numbers}

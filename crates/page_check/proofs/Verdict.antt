@@ -18,7 +18,8 @@ use Rattle.word.proofs.Bools.{bool-ext, and-true, and-false, and_both, both-and,
 use Rattle.word.proofs.ListLaws.{at_all, below_at, at-below, below-same, below-front}
 use Rattle.heap.specs.State.{Slot, State, no_slot, slot_at, data_size, live, worn, bit, times}
 use Rattle.heap.specs.WellFormed.{places, partitioned, retired_rightly, sound_slot, sound_seals, sound_reclaim, sound}
-use Rattle.pages.specs.Page.{read_page, moved, sound_before}
+use Rattle.pages.specs.Page.{moved, sound_before}
+use Rattle.pages.specs.Reading.{read_page}
 use Rattle.pages.proofs.Moving.{moved-sound}
 use Rattle.heap.proofs.Counting.{times-append, times-member}
 use Rattle.heap.proofs.Testing.{parts-tested, all-times}

@@ -9,7 +9,8 @@ use Rattle.heap.specs.Calls.{new}
 use Rattle.word.specs.Result.{Result, ok, refused}
 use Rattle.heap.specs.WellFormed.{sound_slot, sound_seals, sound_reclaim, sound}
 use Rattle.pages.specs.Form.{Form, written}
-use Rattle.pages.specs.Page.{out_of_column, read_page, brought}
+use Rattle.pages.specs.Page.{brought}
+use Rattle.pages.specs.Reading.{out_of_column, read_page}
 use Rattle.page_check.specs.Inner.Partition.{values_at, ValuesParsed, each}
 use Rattle.page_check.specs.Inner.Filling.{slots_at, SlotsParsed}
 use Rattle.page_check.specs.declared.Sections.{Sections}

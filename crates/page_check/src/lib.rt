@@ -2,10 +2,10 @@
 #![tactic(auto)]
 
 ghost use Rattle.std.specs.Prelude.{◌≡◌, [], ◌∷◌, ℕ, ◌+◌, ◌-◌, ◌*◌, ◌^◌, ◌≤◌, ◌<◌, length, drop, replicate, ◌&&◌, leb, ltb, ◌%◌, true, false, MatchOption};
-ghost use Rattle.text.specs.Text.{give};
+ghost use Rattle.text.specs.Reading.{give};
 ghost use Rattle.text.specs.Inner.Answer.{value_answer};
-ghost use Rattle.pages.specs.Form.{writes_width, names, sealed_name};
-ghost use Rattle.pages.specs.Page.{slot_format, sealed_end, retired_count, head_format, read_page};
+ghost use Rattle.pages.specs.Form.{writes_width, sealed_name};
+ghost use Rattle.pages.specs.Reading.{names, slot_format, sealed_end, retired_count, head_format, read_page};
 ghost use Rattle.text.specs.Format.{read_all, number};
 ghost use Rattle.page_check.specs.Inner.Partition.{values_at, ValuesParsed, Marked, right, agree};
 ghost use Rattle.page_check.specs.Inner.Filling.{slots_at};

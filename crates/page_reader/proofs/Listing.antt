@@ -7,7 +7,7 @@ use lib.Seq.{take-suc, take_all, length-take-le}
 use native.Mathlib.Omega.{arith}
 use native.Mathlib.Nat.{sub-zero}
 use native.Mathlib.Numerals.{add-one}
-use Rattle.text.specs.Text.{give, read_field}
+use Rattle.text.specs.Reading.{give, read_field}
 use Rattle.text.specs.Format.{number, read_all}
 use Rattle.text.specs.Inner.Answer.{value_answer}
 use Rattle.text.specs.Put.{put_text}

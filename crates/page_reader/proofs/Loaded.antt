@@ -27,7 +27,8 @@ use Rattle.heap.specs.declared.Heap.{Heap}
 use Rattle.heap.proofs.Packing.{drop-replicate}
 use Rattle.heap.proofs.Recycled.{filter-total}
 use Rattle.pages.specs.Form.{Form, writes_width}
-use Rattle.pages.specs.Page.{out_of_column, read_page, moved, brought}
+use Rattle.pages.specs.Page.{moved, brought}
+use Rattle.pages.specs.Reading.{out_of_column, read_page}
 use Rattle.pages.proofs.Writing.{back-length}
 use Rattle.pages.proofs.Bound.{parts, dead-length, sealed-length}
 use Rattle.page_check.proofs.Columned.{same_size}

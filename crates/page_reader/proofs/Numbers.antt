@@ -10,7 +10,7 @@ use native.Mathlib.Omega.{arith}
 use native.Mathlib.Nat.{sub-zero}
 use Rattle.word.specs.Run.{run}
 use Rattle.word.proofs.RunLaws.{length_run}
-use Rattle.text.specs.Text.{give}
+use Rattle.text.specs.Reading.{give}
 use Rattle.text.specs.Format.{read_all}
 use Rattle.text.specs.Put.{put_text}
 use Rattle.text.proofs.Putting.{put-nothing}
@@ -19,7 +19,7 @@ use Rattle.heap.specs.Packing.{flat, ends}
 use Rattle.heap.specs.Lent.{Lent, columns, cut}
 use Rattle.heap.specs.declared.Heap.{Heap}
 use Rattle.heap.proofs.Runs.{recount, with-generation, with-kind, with-type, with-end, with-writes, set-generation, set-kind, set-type, set-start, set-end, set-writes}
-use Rattle.pages.specs.Page.{slot_format}
+use Rattle.pages.specs.Reading.{slot_format}
 use Rattle.pages.proofs.Writing.{blank}
 use Rattle.page_check.specs.Inner.Filling.{slots_at, past_slots, SlotsParsed}
 use Rattle.page_check.specs.Inner.Answer.{slot_answer}

@@ -13,7 +13,7 @@ use Rattle.std.specs.Prelude.{if◌then◌else◌}
 use Rattle.word.specs.Run.{run}
 use Rattle.word.proofs.RunLaws.{length_run, first-get}
 use Rattle.word.specs.Lists.{filter}
-use Rattle.text.specs.Text.{give, read_field}
+use Rattle.text.specs.Reading.{give, read_field}
 use Rattle.text.specs.Format.{number, read_all}
 use Rattle.text.specs.Inner.Answer.{value_answer}
 use Rattle.text.specs.Put.{put_text}

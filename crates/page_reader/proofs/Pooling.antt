@@ -8,7 +8,8 @@ use lib.ListN.{length, take, drop, get_or, length-drop, length-append}
 use lib.Seq.{take_all, drop-append_seam, drop-drop}
 use native.Mathlib.Omega.{arith}
 use native.Mathlib.Nat.{sub-zero}
-use Rattle.text.specs.Text.{give, hex, newline, read_hex}
+use Rattle.text.specs.Text.{hex, newline}
+use Rattle.text.specs.Reading.{give, read_hex}
 use Rattle.text.specs.Format.{read_all}
 use Rattle.text.specs.Inner.Answer.{hex_at, HexParsed}
 use Rattle.text.specs.Put.{put_text}
@@ -17,8 +18,7 @@ use Rattle.text.proofs.Laws.{hex-forth, hex-length}
 use Rattle.text.proofs.Putting.{puts-puts, puts-at, puts_none}
 use Rattle.heap.specs.State.{Slot, data_of, data_size}
 use Rattle.heap.specs.Packing.{flat}
-use Rattle.pages.specs.Form.{from_column}
-use Rattle.pages.specs.Page.{slot_format, out_of_column}
+use Rattle.pages.specs.Reading.{from_column, slot_format, out_of_column}
 use Rattle.pages.specs.Inner.Columns.{field}
 use Rattle.pages.proofs.Laws.{slot-right, slot-prints}
 use Rattle.pages.proofs.Writing.{blank, slot-parts}

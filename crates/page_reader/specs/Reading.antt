@@ -4,7 +4,7 @@ use Rattle.word.specs.Result.{Result, ok, refused}
 use Rattle.heap.specs.State.{State}
 use Rattle.heap.specs.Lent.{Lent, stored, slot_count, pool_size}
 use Rattle.pages.specs.Form.{Form, writes_width}
-use Rattle.pages.specs.Page.{read_page}
+use Rattle.pages.specs.Reading.{read_page}
 use Rattle.page_check.specs.Sections.{form_in, verdict}
 
 -- the lengths of what is lent are right (`sizesFit`), said of the runs: S and pool in range, the last run of either list has S entries, and nothing lies past them

@@ -5,8 +5,8 @@ ghost use Rattle.std.specs.Prelude.{◌≡◌, map, ◌+◌, ◌-◌, ◌*◌, �
 ghost use Rattle.text.specs.Put.{put_text};
 ghost use Rattle.text.specs.Inner.Puts.{Puts};
 ghost use Rattle.text.specs.Inner.Answer.{hex_at};
-ghost use Rattle.pages.specs.Form.{writes_width, from_column};
-ghost use Rattle.pages.specs.Page.{out_of_column};
+ghost use Rattle.pages.specs.Form.{writes_width};
+ghost use Rattle.pages.specs.Reading.{from_column, out_of_column};
 ghost use Rattle.heap.specs.State.{data_of, data_size};
 ghost use Rattle.heap.specs.Packing.{flat};
 ghost use Rattle.page_check.specs.Inner.Partition.{values_at, ValuesParsed};

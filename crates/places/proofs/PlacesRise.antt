@@ -16,7 +16,8 @@ use Rattle.std.specs.Prelude.{Some, None, Ok, Err, unwrap_or, if◌then◌else�
 use Rattle.ty.specs.Types.{Ty, Ty.missing, Ty.int, Ty.physical, Ty.enum, Ty.real, Ty.array, Ty.fields, Ty.access, Ty.file, Ty.protected, Field, Field.field, Const, Const.plain, Const.other, Table, type_at, const_at, none as no_const}
 use Rattle.ty.specs.Words.{on_word, word_of, round_up, Word}
 use Rattle.ty.specs.Scalars.{scalar_size, narrow, elem_size, logic_leaf}
-use Rattle.ty.specs.Walks.{desc_size, handles_at, has_handles}
+use Rattle.ty.specs.Walks.{handles_at, has_handles}
+use Rattle.ty.specs.DescSize.{desc_size}
 use Rattle.layout.specs.Layout.{Lay, laid, on_bytes, dims_of, under, used_by, placed, end_of, array_laid, array_of, record_of, scalar_laid, layout_by, layout_at, layout_of}
 use Rattle.layout.specs.Offsets.{offsets_from, offsets_of, fields_of}
 use Rattle.refusal.specs.declared.Refusal.TheVariants.{TooLarge}

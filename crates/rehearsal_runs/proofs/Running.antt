@@ -13,7 +13,8 @@ use Rattle.text.proofs.Laws.{none-not-some, some_inj, bind-some}
 use Rattle.ty.specs.Types.{Table}
 use Rattle.heap.specs.State.{State}
 use Rattle.heap.specs.Lent.{Lent, slot_count, pool_size}
-use Rattle.rehearsal.specs.Lines.{Line as Step, alloc, store, drop as drops, line_text, read_line, read_lines, is_read, is_text}
+use Rattle.rehearsal.specs.Lines.{Line as Step, alloc, store, drop as drops, line_text}
+use Rattle.rehearsal.specs.Reading.{read_line, read_lines, is_read, is_text}
 use Rattle.rehearsal.specs.Runs.{Run, World, unless, does, after, starting}
 use Rattle.rehearsal.specs.OnHeap.{heaped, fresh}
 use Rattle.rehearsal.proofs.Reading.{line-back, read-nothing, read-bad, read_more}

@@ -4,7 +4,8 @@ use Rattle.std.proofs.Math.Option.{Option, none, some}
 use Rattle.ty.specs.Types.{Table}
 use Rattle.heap.specs.State.{State}
 use Rattle.heap.specs.Lent.{Lent, stored}
-use Rattle.rehearsal.specs.Lines.{Line, read_lines}
+use Rattle.rehearsal.specs.Lines.{Line}
+use Rattle.rehearsal.specs.Reading.{read_lines}
 use Rattle.rehearsal.specs.Runs.{Run, after, starting}
 use Rattle.rehearsal.specs.OnHeap.{heaped, fresh}
 

@@ -26,7 +26,7 @@ use Rattle.door.specs.HeapCalls.{Entry}
 use Rattle.door.specs.HeapCalls.{ready}
 use Rattle.door.proofs.Entering.{fails, passes, cleared-in, holding, whether-not, whether-ready}
 use Rattle.object_door.specs.ObjectCalls.{handed}
-use Rattle.rehearsal.specs.Lines.{is_text}
+use Rattle.rehearsal.specs.Reading.{is_text}
 use Rattle.rehearsal.specs.Machine.{plain}
 use Rattle.rehearsal.proofs.Theorem.{text-theorem}
 use Rattle.rehearsal_place.proofs.Answering.{apart}

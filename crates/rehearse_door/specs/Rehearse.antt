@@ -13,7 +13,7 @@ use Rattle.heap.specs.Sizes.{sizes_fit}
 use Rattle.door.specs.HeapCalls.{Test, test, admitted, whether, zeros, scratch_after, outcome_of}
 use Rattle.std.specs.Prelude.{Err}
 use Rattle.object_door.specs.ObjectCalls.{Handed, handed}
-use Rattle.rehearsal.specs.Lines.{is_text}
+use Rattle.rehearsal.specs.Reading.{is_text}
 use Rattle.rehearsal.specs.Runs.{figures_text}
 use Rattle.rehearsal.specs.Machine.{empty, Tells, Right, plain}
 use Rattle.rehearsal.specs.OnHeap.{heaped, fresh}

@@ -8,14 +8,16 @@ use lib.ListN.{length, take, drop, length-drop, take-append-drop}
 use lib.Seq.{take_at, drop_at, length-take-le}
 use native.Mathlib.Omega.{arith}
 use native.Mathlib.Nat.{mul-suc}
-use Rattle.text.specs.Text.{give, ◌>>=◌, Bytes}
-use Rattle.text.specs.Format.{pair, times, All}
+use Rattle.text.specs.Text.{Bytes, All}
+use Rattle.text.specs.Reading.{give, ◌>>=◌}
+use Rattle.text.specs.Format.{pair, times}
 use Rattle.text.specs.Inner.Right.{Right}
 use Rattle.text.proofs.Laws.{bind-some, some_inj, pair-right, times-right}
-use Rattle.pages.specs.Page.{whole}
+use Rattle.pages.specs.Reading.{whole}
 use Rattle.pages.proofs.Laws.{whole-some}
 use Rattle.ty.specs.Check.{table_good}
-use Rattle.tables.specs.Table.{Row, Named, most64, most32, Plain, RowWithin, Within, name_text, name_format}
+use Rattle.tables.specs.Table.{Row, Named, most64, most32, Plain, RowWithin, Within, name_text}
+use Rattle.tables.specs.Reading.{name_format}
 use Rattle.tables.specs.Lists.{numbers_in, names_in, all_names, Names, names_format, rows_of, with_names, named_in}
 use Rattle.tables.proofs.Laws.{name-right}
 use Rattle.tables.proofs.Rowing.{numbers-size}

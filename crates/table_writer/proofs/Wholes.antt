@@ -12,12 +12,14 @@ use lib.Seq.{drop-cons}
 use native.Mathlib.Omega.{arith}
 use native.Mathlib.Nat.{mul-suc, zero-add}
 use borrow.Author.Tests.{leb-true, eqb-true}
-use Rattle.text.specs.Text.{give, ◌>>=◌, decimal, hex, line, newline, comma}
+use Rattle.text.specs.Text.{decimal, hex, line, newline, comma}
+use Rattle.text.specs.Reading.{give, ◌>>=◌}
 use Rattle.text.specs.Format.{read_all, pair, times}
 use Rattle.text.specs.Inner.Puts.{Puts}
 use Rattle.text.proofs.Laws.{times-right, hex-length}
-use Rattle.pages.specs.Page.{whole}
-use Rattle.tables.specs.Table.{read_name, field, name_text, name_format, row_line, count_names, type_names, field_names, constant_names, bytes_name, counts_line, table_text}
+use Rattle.pages.specs.Reading.{whole}
+use Rattle.tables.specs.Table.{field, name_text, row_line, count_names, type_names, field_names, constant_names, bytes_name, counts_line, table_text}
+use Rattle.tables.specs.Reading.{read_name, name_format}
 use Rattle.word.specs.Result.{ok}
 use Rattle.word.proofs.Bools.{and_both}
 use Rattle.ty.specs.Check.{all_of, table_good}

@@ -7,7 +7,7 @@ use mathlib.Core.Path.{◌≡◌, refl, sym, ap, ◌∙◌, subst}
 use lib.ListN.{length, drop, length-drop, length-append}
 use native.Mathlib.Omega.{arith}
 use native.Mathlib.Nat.{sub-zero}
-use Rattle.text.specs.Text.{give, ◌>>=◌, Reader}
+use Rattle.text.specs.Reading.{give, ◌>>=◌, Reader}
 use Rattle.text.specs.Format.{Format, read_all}
 use Rattle.text.specs.Inner.Right.{Right}
 use Rattle.text.proofs.Laws.{none-not-some, some_inj}

@@ -3,11 +3,12 @@
 use Rattle.std.specs.Prelude.{ℕ, ◌/◌, Bool, length, take, drop}
 use mathlib.Core.List.{List, [], ◌∷◌, ◌++◌, flat_map}
 use Rattle.std.proofs.Math.Option.{Option, some}
-use Rattle.text.specs.Text.{◌>>=◌}
+use Rattle.text.specs.Reading.{◌>>=◌}
 use Rattle.text.specs.Format.{Format, pair, times}
-use Rattle.pages.specs.Page.{whole}
+use Rattle.pages.specs.Reading.{whole}
 use Rattle.ty.specs.Check.{table_good}
-use Rattle.tables.specs.Table.{Row, Named, name_text, name_format}
+use Rattle.tables.specs.Table.{Row, Named, name_text}
+use Rattle.tables.specs.Reading.{name_format}
 
 unfoldable pub numbers_in : List Row → List ℕ
 numbers_in rows = flat_map (λ r. r.0) rows

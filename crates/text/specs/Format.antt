@@ -2,7 +2,8 @@
 use Rattle.std.specs.Prelude.{ℕ, zero, suc, ◌-◌, ◌^◌, Bool, true, false, if◌then◌else◌}
 use mathlib.Core.List.{List, [], ◌∷◌, ◌++◌, flat_map}
 use Rattle.std.proofs.Math.Option.{Option, none, some}
-use Rattle.text.specs.Text.{Reader, give, ◌>>=◌, newline, decimal, hex, read_field, read_hex, read_literal}
+use Rattle.text.specs.Text.{newline, decimal, hex, read_literal}
+use Rattle.text.specs.Reading.{Reader, give, ◌>>=◌, read_field, read_hex}
 
 pub record Format (A : Type 0) : Type 0 where
   pub print : A → List ℕ
@@ -61,8 +62,3 @@ times n f = record { print = flat_map f.print; read = read_all f.read n }
 -- values of another type, one for one
 unfoldable pub mapped : {A B : Type 0} → (A → B) → (B → A) → Format A → Format B
 mapped to from f = record { print = λ b. f.print (from b); read = λ t. f.read t >>= λ r. give (to r.0) r.1 }
-
--- every element is good
-abbrev pub All : {A : Type 0} → (A → Type 0) → List A → Type 0
-All good [] = Unit
-All good (a ∷ l) = good a × All good l

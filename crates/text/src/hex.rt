@@ -1,7 +1,7 @@
 // Bytes that a text spells in hexadecimal.
 ghost use Rattle.std.specs.Prelude.{◌≡◌, ◌≢◌, ◌+◌, ◌≤◌, ◌<◌, length, drop, get_or};
 ghost use Rattle.std.proofs.Math.Option.{none};
-ghost use Rattle.text.specs.Text.{read_hex};
+ghost use Rattle.text.specs.Reading.{read_hex};
 ghost use Rattle.text.specs.Inner.Answer.{hex_at};
 ghost use Rattle.text.specs.Inner.Puts.{Puts};
 

@@ -23,7 +23,8 @@ use Rattle.heap.proofs.Seals.{seals-few}
 use Rattle.heap.proofs.Storing.{view-stored}
 use Rattle.heap.proofs.Testing.{stored-formed, formed-tested}
 use Rattle.pages.specs.Form.{Form}
-use Rattle.pages.specs.Page.{page_text, Within, read_page, moved, brought}
+use Rattle.pages.specs.Page.{page_text, Within, moved, brought}
+use Rattle.pages.specs.Reading.{read_page}
 use Rattle.pages.proofs.Laws.{read-written}
 use Rattle.page_check.specs.Sections.{form_in, verdict}
 use Rattle.page_check.proofs.Assembly.{form-is}

@@ -7,7 +7,8 @@ use Rattle.heap.specs.State.{State}
 use Rattle.heap.specs.Lent.{Lent, view}
 use Rattle.heap.specs.WellFormed.{sound}
 use Rattle.pages.specs.Form.{Form, written, earlier}
-use Rattle.pages.specs.Page.{page_text, Within, read_page, brought}
+use Rattle.pages.specs.Page.{page_text, Within, brought}
+use Rattle.pages.specs.Reading.{read_page}
 use Rattle.page_check.specs.Sections.{form_in, heap_in}
 use Rattle.theorems.specs.PageCalls.{Writes, Reads, Scratch, Room, TookIn, WroteText, met}
 use Rattle.theorems.specs.PageHeapPage.{TextRead}

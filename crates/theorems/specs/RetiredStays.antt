@@ -7,7 +7,8 @@ use Rattle.reach.specs.Reach.{Graph, Starts}
 use Rattle.flow.specs.Function.{Function}
 use Rattle.ty.specs.Types.{Table}
 use Rattle.collection.specs.Collected.{collected}
-use Rattle.collection.specs.Joined.{Pinning, joined}
+use Rattle.collection.specs.Joined.{joined}
+use Rattle.collection.specs.JoinedDemand.{Pinning}
 
 -- h before a call, h' after it
 pub record Stays (h h' : State) : Type 0 where

@@ -12,7 +12,7 @@ use Rattle.ty.proofs.Laws.{word-is}
 use Rattle.ty.specs.Words.{word_of, on_word, round_up, Word}
 use Rattle.ty.specs.Scalars.{scalar_size, elem_size, logic_leaf}
 use Rattle.layout.specs.Layout.{Lay, dims_of, on_ok, on_bytes, under, used_by, array_laid, array_of, end_of, placed, record_of, scalar_laid, layout_by, layout_at}
-use Rattle.ty.specs.Walks.{desc_array, desc_fields, desc_by, desc_at, desc_size}
+use Rattle.ty.specs.DescSize.{desc_array, desc_fields, desc_by, desc_at, desc_size}
 use Rattle.refusal.specs.declared.Refusal.{Refusal}
 use Rattle.refusal.specs.declared.Refusal.TheVariants.{TooLarge}
 use Rattle.layout.specs.declared.Layout.{Layout}

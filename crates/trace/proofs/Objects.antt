@@ -10,7 +10,8 @@ use Rattle.ty.specs.Words.{Word}
 use Rattle.word.specs.Result.{Result, ok, refused}
 use Rattle.std.specs.Prelude.{Some, None}
 use Rattle.ty.specs.Types.{Table}
-use Rattle.ty.specs.Walks.{desc_size, has_handles}
+use Rattle.ty.specs.Walks.{has_handles}
+use Rattle.ty.specs.DescSize.{desc_size}
 use Rattle.ty.specs.declared.Table.{Table as Lent}
 use Rattle.ty.specs.View.{lent, types_of}
 use Rattle.word.proofs.ListLaws.{rest}

@@ -5,7 +5,8 @@ use Rattle.std.proofs.Math.Option.{Option, none, some}
 use Rattle.word.specs.Le.{le}
 use Rattle.ty.specs.Types.{Ty, Ty.missing, Ty.int, Ty.physical, Ty.enum, Ty.real, Ty.array, Ty.fields, Ty.access, Ty.file, Ty.protected, Field, Field.field, Const, Const.plain, Const.other, Table, type_at, const_at, none as no_const}
 use Rattle.ty.specs.Words.{on_word, Word}
-use Rattle.ty.specs.Walks.{desc_size, has_handles}
+use Rattle.ty.specs.Walks.{has_handles}
+use Rattle.ty.specs.DescSize.{desc_size}
 use Rattle.layout.specs.Layout.{Lay, layout_of}
 use Rattle.layout.specs.Offsets.{offsets_of}
 

@@ -1,18 +1,16 @@
 -- What a collection has to answer and leave, as laws prove it of its equation.
-use Rattle.std.specs.Prelude.{◌≡◌, ◌↔◌}
+use Rattle.std.specs.Prelude.{◌≡◌, ◌↔◌, List, ℕ}
 use Rattle.word.specs.Result.{ok, refused}
 use Rattle.heap.specs.State.{State}
 use Rattle.heap.specs.Calls.{Changed}
 use Rattle.reach.specs.Reach.{Graph, Starts, UntraceableFrom}
 use Rattle.collection.specs.Demand.{Survived}
-use Rattle.std.specs.Prelude.{List, ℕ}
 use Rattle.std.proofs.Math.Option.{Option, none, some}
 use Rattle.ty.specs.Types.{Table}
 use Rattle.flow.specs.Function.{Function}
 use Rattle.collection.specs.Collected.{graph}
 use Rattle.collection.specs.Shown.{shown}
-use Rattle.collection.specs.Joined.{Pinning}
-use Rattle.collection.specs.JoinedDemand.{JoinedStarts, UntraceableAt, Untraceable}
+use Rattle.collection.specs.JoinedDemand.{Pinning, JoinedStarts, UntraceableAt, Untraceable}
 
 -- what a collection of h has to answer and leave
 pub record Collects (G : Graph) (S : Starts) (h : State) (r : Changed Unit) : Type 0 where

@@ -1,8 +1,7 @@
 -- What a call that lists a frame's handles and addresses answers and leaves.
 use Rattle.std.specs.Prelude.{ℕ, ◌≡◌, List, length}
 use Rattle.word.specs.Result.{Result}
-use Rattle.refusal.specs.Told.{Reply}
-use Rattle.refusal.specs.Told.{told, answered}
+use Rattle.refusal.specs.Told.{Reply, told, answered}
 use Rattle.frame.specs.Listing.{Roots, handles_to, addresses_to}
 
 -- the answer, how many of each were written, and the lists after a call that gives these roots or a refusal

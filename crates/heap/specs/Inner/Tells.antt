@@ -1,8 +1,7 @@
 -- What a call leaves in lent memory and answers: the shape of the inner calls' contracts.
 use Rattle.std.specs.Prelude.{◌≡◌, ℕ}
 use Rattle.word.specs.Result.{Result}
-use Rattle.refusal.specs.Told.{told, answered}
-use Rattle.refusal.specs.Told.{Reply}
+use Rattle.refusal.specs.Told.{told, answered, Reply}
 use Rattle.heap.specs.Lent.{Lent}
 use Rattle.heap.specs.Calls.{Changed}
 use Rattle.heap.specs.Done.{Leaves}

@@ -1,7 +1,6 @@
 -- What `take` leaves and answers, over the memory of a known heap.
 use Rattle.std.specs.Prelude.{◌≡◌, List, ℕ, length}
-use Rattle.refusal.specs.Told.{told, answered}
-use Rattle.refusal.specs.Told.{Reply}
+use Rattle.refusal.specs.Told.{told, answered, Reply}
 use Rattle.heap.specs.Lent.{Lent, view}
 use Rattle.heap.specs.Calls.{take_into}
 use Rattle.heap.specs.Done.{Leaves}

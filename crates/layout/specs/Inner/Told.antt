@@ -1,8 +1,7 @@
 -- What the code of a layout answers, in the words of the definitions.
-use Rattle.std.specs.Prelude.{ℕ, Result}
+use Rattle.std.specs.Prelude.{ℕ, Result, Ok, Err}
 use Rattle.refusal.specs.declared.Refusal.{Refusal}
 use Rattle.layout.specs.declared.Layout.{Layout}
-use Rattle.std.specs.Prelude.{Ok, Err}
 use Rattle.word.specs.Result.{ok, refused}
 use Rattle.refusal.specs.Told.{number_of}
 use Rattle.layout.specs.Offsets.{Values, values}

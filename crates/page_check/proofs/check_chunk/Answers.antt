@@ -2,10 +2,10 @@ use Rattle.page_check.proofs.Filling.{read_next, read_some, read-end, read-rest,
 use Rattle.page_check.proofs.Reading.{line-found, line-lost}
 use Rattle.page_check.specs.Inner.Filling.{slots_at}
 use Rattle.pages.proofs.Writing.{blank}
-use Rattle.pages.specs.Page.{slot_format}
+use Rattle.pages.specs.Reading.{slot_format}
 use Rattle.heap.specs.State.{Slot, bit}
 use Rattle.text.specs.Format.{read_all}
-use Rattle.text.specs.Text.{give}
+use Rattle.text.specs.Reading.{give}
 use lib.ListN.{drop}
 use native.Mathlib.Nat.{sub-zero}
 use native.Mathlib.Omega.{arith}

@@ -1,8 +1,8 @@
 use Rattle.page_check.specs.Inner.Partition.{agree}
 use Rattle.page_check.specs.Inner.Filling.{slots_at}
-use Rattle.pages.specs.Page.{slot_format}
+use Rattle.pages.specs.Reading.{slot_format}
 use Rattle.text.specs.Format.{read_all}
-use Rattle.text.specs.Text.{give}
+use Rattle.text.specs.Reading.{give}
 use lib.ListN.{length, drop}
 use mathlib.Core.Path.{◌≡◌}
 use mathlib.Core.Bool.{true, ◌&&◌}

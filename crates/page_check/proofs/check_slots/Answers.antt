@@ -3,7 +3,7 @@ use Rattle.page_check.proofs.Reading.{slots-begin, slots-lost, slots_next, slots
 use native.Mathlib.Nat.{sub-zero}
 use mathlib.Core.Bool.{true}
 use Rattle.page_check.specs.Inner.Answer.{slots_more}
-use Rattle.pages.specs.Page.{slot_format}
+use Rattle.pages.specs.Reading.{slot_format}
 use Rattle.text.specs.Format.{read_all}
 use lib.ListN.{length, drop}
 use native.Mathlib.Omega.{arith}

@@ -1,5 +1,5 @@
 use Rattle.page_check.specs.Inner.Answer.{slots_answer, slots_more}
-use Rattle.pages.specs.Page.{slot_format}
+use Rattle.pages.specs.Reading.{slot_format}
 use Rattle.text.specs.Format.{read_all}
 use lib.ListN.{length, drop}
 use mathlib.Core.Path.{◌≡◌}

@@ -1,6 +1,6 @@
 use Rattle.page_check.specs.Inner.Partition.{values_at, Marked}
 use Rattle.text.specs.Format.{number, read_all}
-use Rattle.text.specs.Text.{give}
+use Rattle.text.specs.Reading.{give}
 use lib.ListN.{length, drop, take}
 use mathlib.Core.Path.{◌≡◌}
 use mathlib.Core.Bool.{true}

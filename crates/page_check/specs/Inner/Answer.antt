@@ -6,7 +6,7 @@ use Rattle.word.specs.Lists.{all}
 use Rattle.heap.specs.State.{data_size, Slot}
 use Rattle.heap.specs.WellFormed.{sound_slot, sound_seals}
 use Rattle.handle.specs.Handle.{tag_of, index_of, generation_of}
-use Rattle.pages.specs.Page.{Head}
+use Rattle.pages.specs.Reading.{Head}
 use Rattle.page_check.specs.declared.SlotRead.{SlotRead}
 use Rattle.page_check.specs.declared.HeadRead.{HeadRead}
 use Rattle.page_check.specs.declared.Values.{Values}

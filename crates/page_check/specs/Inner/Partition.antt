@@ -2,7 +2,7 @@
 use Rattle.std.specs.Prelude.{ℕ, ◌+◌, ◌≤◌, ◌<◌, List, [], ◌∷◌, ◌≡◌, Bool, true, false, not, ◌&&◌, ◌||◌, eqb, ltb, drop, if◌then◌else◌}
 use Rattle.std.proofs.Math.Option.{none, some}
 use Rattle.heap.specs.State.{Slot, bit, times, last_generation}
-use Rattle.text.specs.Text.{give}
+use Rattle.text.specs.Reading.{give}
 use Rattle.rows.specs.Inner.Row.{bit_in}
 use Rattle.text.specs.Format.{number, read_all}
 use Rattle.page_check.specs.declared.Rule.{Rule}

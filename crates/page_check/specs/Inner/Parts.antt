@@ -2,12 +2,13 @@
 use Rattle.std.specs.Prelude.{ℕ, ◌≤◌, List, Bool, ◌⊎◌, ◌≡◌, length, drop, Option, Some, None}
 use Rattle.std.proofs.Math.Option.{none, some}
 use Rattle.word.specs.Lists.{all}
-use Rattle.text.specs.Text.{give, Reader, read_literal}
+use Rattle.text.specs.Text.{read_literal}
+use Rattle.text.specs.Reading.{give, Reader}
 use Rattle.text.specs.Format.{Format, number, read_all}
 use Rattle.heap.specs.State.{Slot, data_size}
 use Rattle.heap.specs.WellFormed.{sound_slot}
-use Rattle.pages.specs.Form.{heap_front, retired_too, no_retired, names, slot_named}
-use Rattle.pages.specs.Page.{Head, head_format, slot_format, retired_format}
+use Rattle.pages.specs.Form.{heap_front, retired_too, no_retired}
+use Rattle.pages.specs.Reading.{names, slot_named, Head, head_format, slot_format, retired_format}
 use Rattle.page_check.specs.declared.HeadRead.{HeadRead}
 use Rattle.page_check.specs.Inner.Answer.{values_of}
 use Rattle.page_check.specs.declared.Values.{Values}

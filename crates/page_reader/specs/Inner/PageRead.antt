@@ -1,7 +1,6 @@
 -- What the reader of pages answers and leaves.
 use Rattle.std.specs.Prelude.{ℕ, List, ◌≡◌}
-use Rattle.refusal.specs.Told.{told, answered}
-use Rattle.refusal.specs.Told.{Reply}
+use Rattle.refusal.specs.Told.{told, answered, Reply}
 use Rattle.heap.specs.Lent.{Lent}
 use Rattle.page_reader.specs.Reading.{bits_met, names_met, read_into}
 

@@ -1,7 +1,6 @@
 -- What the writer of pages answers and leaves.
 use Rattle.std.specs.Prelude.{ℕ, List, ◌≡◌}
-use Rattle.refusal.specs.Told.{told, answered, here, nothing}
-use Rattle.refusal.specs.Told.{Reply}
+use Rattle.refusal.specs.Told.{told, answered, here, nothing, Reply}
 use Rattle.pages.specs.Answer.{text_answer, text_out}
 
 pub record PageWritten (before after text : List ℕ) (r : Reply) : Type 0 where

@@ -1,10 +1,9 @@
 -- Rehearsals in lent memory: what they ask for, and what holds of them.
-use Rattle.std.specs.Prelude.{ℕ, ◌+◌, ◌*◌, ◌/◌, ◌≤◌, true, List, ◌≡◌, length}
-use Rattle.std.specs.Prelude.{None}
+use Rattle.std.specs.Prelude.{ℕ, ◌+◌, ◌*◌, ◌/◌, ◌≤◌, true, List, ◌≡◌, length, None}
 use Rattle.text.specs.Put.{put_text}
 use Rattle.ty.specs.Types.{Table}
 use Rattle.heap.specs.Lent.{Lent, slot_count, pool_size}
-use Rattle.rehearsal.specs.Lines.{is_text}
+use Rattle.rehearsal.specs.Reading.{is_text}
 use Rattle.rehearsal.specs.Runs.{starting, Figures, figures_line, figures_text}
 use Rattle.rehearsal.specs.OnHeap.{heaped, fresh}
 use Rattle.rehearsal_steps.specs.declared.Going.{Going}

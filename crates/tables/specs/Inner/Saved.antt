@@ -1,6 +1,7 @@
 -- A named table as its format has it.
 use Rattle.std.specs.Prelude.{length}
-use Rattle.tables.specs.Table.{Named, Counts, Body}
+use Rattle.tables.specs.Table.{Named}
+use Rattle.tables.specs.Reading.{Counts, Body}
 
 abbrev pub saved : Named → Counts × Body
 saved d = (

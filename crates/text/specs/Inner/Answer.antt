@@ -2,7 +2,7 @@
 use Rattle.std.specs.Prelude.{ℕ, ◌+◌, ◌-◌, ◌*◌, ◌≤◌, ◌<◌, List, [], ◌∷◌, ◌≡◌, length, get_or, drop, Option, Some, None}
 use mathlib.Core.Option as maybe
 use mathlib.Core.Option.{none, some}
-use Rattle.text.specs.Text.{read_hex, digit_of, hex_digit_of, give}
+use Rattle.text.specs.Reading.{read_hex, digit_of, hex_digit_of, give}
 
 -- a value and where the rest begins
 abbrev pub value_answer : {A : Type 0} → (len : ℕ) → maybe.Option (A × List ℕ) → Option (A × ℕ)

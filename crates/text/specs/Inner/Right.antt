@@ -1,7 +1,7 @@
 -- When a format is right: what is printed is read back, and what is read was printed.
 use Rattle.std.specs.Prelude.{ℕ, ◌≡◌}
 use mathlib.Core.List.{List, ◌++◌}
-use Rattle.text.specs.Text.{give}
+use Rattle.text.specs.Reading.{give}
 use Rattle.text.specs.Format.{Format}
 
 -- what makes a format right for the values that are `good`: reading what was printed gives the value back and the rest of the text,
