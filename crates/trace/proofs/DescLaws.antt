@@ -90,7 +90,7 @@ module _ (T : Table) (n k : ℕ) (IH : (t : ℕ) (d : List ℕ) → length d < 2
       (record-sizes fs d o (max al v.align) (used + used_by c v.used) l (omega arith))))
 
   by-sizes : (t : ℕ) (d : List ℕ) (y : Ty) → length d < 2 ^ 64 → Sizes (desc_by (desc_at T.types k) y) (layout_by T (layout_at T n) t d y)
-  unfolding layout_by desc_by
+  unfolding layout_by scalar_size desc_by
   by-sizes t d missing l = tt
   by-sizes t d (int lo hi) l = refl
   by-sizes t d physical l = refl
