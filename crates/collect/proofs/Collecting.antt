@@ -30,7 +30,8 @@ use Rattle.reach.specs.Marking.{State as Marks, marking}
 use Rattle.reach.proofs.Sound.{marks-length}
 use Rattle.collection.specs.Swept.{swept}
 use Rattle.collection.specs.Shown.{shown}
-use Rattle.collection.specs.Collected.{graph, starts, swept_by, collected}
+use Rattle.collection.specs.Collected.{graph, starts}
+use Rattle.collection.specs.Collecting.{swept_by, collected}
 use Rattle.collection.specs.Inner.Held.{held_graph}
 use Rattle.collection.specs.Joined.{joined_by}
 use Rattle.collection.proofs.SweptLaws.{swept_same}

@@ -4,7 +4,8 @@ use Rattle.ty.specs.Types.{Table}
 use Rattle.heap.specs.State.{State}
 use Rattle.heap.specs.Calls.{Changed}
 use Rattle.collection.specs.Shown.{shown}
-use Rattle.collection.specs.Collected.{graph, starts, collected}
+use Rattle.collection.specs.Collected.{graph, starts}
+use Rattle.collection.specs.Collecting.{collected}
 
 -- the collection from these roots and pins, by the handles that objects show by the types of T
 abbrev pub collecting : Table → (roots pins : List ℕ) → State → Changed Unit

@@ -24,7 +24,8 @@ use Rattle.reach.specs.Marking.{State as Marks, marking}
 use Rattle.reach.proofs.Sound.{Sized, Marked, Answer, marking-answer, reached-first, reached-next, reached-ind, refused as stuck-exactly}
 use Rattle.collection.specs.Swept.{swept}
 use Rattle.collection.specs.Shown.{shown}
-use Rattle.collection.specs.Collected.{graph, collected}
+use Rattle.collection.specs.Collected.{graph}
+use Rattle.collection.specs.Collecting.{collected}
 use Rattle.collection.specs.Inner.Held.{held_graph}
 use Rattle.heap.proofs.Keeping.{live_inside}
 use Rattle.collection.proofs.Pinned.{in-member, member-in}

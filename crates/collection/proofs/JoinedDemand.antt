@@ -17,7 +17,8 @@ use Rattle.flow.specs.Function.{Function, valid, safepoint}
 use Rattle.addresses.specs.Listed.{paired}
 use Rattle.reach.specs.Reach.{Graph, Starts, First, Chain, Reached, UntraceableFrom, ◌∈◌}
 use Rattle.collection.specs.Swept.{swept}
-use Rattle.collection.specs.Collected.{graph, starts, collected}
+use Rattle.collection.specs.Collected.{graph, starts}
+use Rattle.collection.specs.Collecting.{collected}
 use Rattle.collection.specs.Demand.{Survived}
 use Rattle.collection.specs.Inner.Collects.{Collects, Joins}
 use Rattle.collection.proofs.Answers.{two-answers}

@@ -9,7 +9,8 @@ use Rattle.heap.specs.Calls.{Changed, refuse}
 use Rattle.flow.specs.Function.{Function}
 use Rattle.flow.specs.Dataflow.{live_row, track}
 use Rattle.addresses.specs.Listed.{slots_of}
-use Rattle.collection.specs.Collected.{graph, starts, collected}
+use Rattle.collection.specs.Collected.{graph, starts}
+use Rattle.collection.specs.Collecting.{collected}
 use Rattle.collection.specs.Shown.{shown}
 use Rattle.collection.specs.JoinedDemand.{Pinning}
 

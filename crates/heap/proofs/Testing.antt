@@ -2,7 +2,8 @@
 use Rattle.std.proofs.Common.{◌≡◌, ℕ, ◌+◌, ◌%◌, ◌<◌, ◌≤◌, Bool, true, not, ◌&&◌, ◌||◌, eqb, ltb, leb, List, [], ◌∷◌, ◌++◌, length, get_or, sym, refl, ap, ◌∙◌, ⊎_elim, arith, ltb-true, le-ltb, lt-ltb, eq-eqb, ne_eqb, eqb-true, le-leb, leb-true}
 use native.Mathlib.Decide.{dec_lt, ℕ_discrete}
 use lib.ListN.{get_or-eq_default}
-use Rattle.word.specs.Lists.{all, all_below, same_list}
+use Rattle.word.specs.Lists.{all, all_below}
+use Rattle.word.specs.Same.{same_list}
 use Rattle.word.proofs.Bools.{and_both, both-and, or_cases, or_left, or_right}
 use Rattle.word.proofs.ListLaws.{all-at, at_all, below_at, at-below, same-tested, same_test}
 use Rattle.heap.specs.Packing.{flat}

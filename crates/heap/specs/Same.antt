@@ -1,6 +1,6 @@
 -- When two headers, and two heaps in lent memory, are equal, as tests. That the test passes exactly if they are is `lent-tested` and `lent-test` (proofs/Testing.antt).
 use Rattle.std.specs.Prelude.{Bool, ◌&&◌, ◌==◌}
-use Rattle.word.specs.Lists.{same_list}
+use Rattle.word.specs.Same.{same_list}
 use Rattle.heap.specs.Lent.{Lent}
 use Rattle.heap.specs.declared.Heap.{Heap}
 

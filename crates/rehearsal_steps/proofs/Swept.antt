@@ -26,7 +26,8 @@ use Rattle.heap_calls.specs.Pins.{rising_from}
 use Rattle.reach.specs.Marking.{State as Marks, marking}
 use Rattle.collection.specs.Swept.{live_size, swept}
 use Rattle.collection.specs.Shown.{shown}
-use Rattle.collection.specs.Collected.{graph, starts, swept_by, collected}
+use Rattle.collection.specs.Collected.{graph, starts}
+use Rattle.collection.specs.Collecting.{swept_by, collected}
 use Rattle.collection.proofs.SweptLaws.{swept-live}
 use Rattle.collect.specs.Collect.{collecting as collect_call}
 use Rattle.collect.specs.Inner.Finished.{CanCollect}

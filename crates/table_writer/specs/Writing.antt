@@ -6,7 +6,7 @@ use Rattle.word.specs.Result.{Result, ok, refused}
 use Rattle.ty.specs.Check.{table_good}
 use Rattle.pages.specs.Answer.{text_answer, text_out}
 use Rattle.tables.specs.Table.{Named, table_text}
-use Rattle.tables.specs.Lists.{named_in}
+use Rattle.tables.specs.Reading.{named_in}
 
 -- the table that lies in lent lists, or what it is refused for
 unfoldable pub table_in : (types fields constants bytes names : List ℕ) → Result Named

@@ -1,5 +1,6 @@
--- A type table's text as it is read. That a text is read as a table exactly if it is that table's text is the law `read-exactly` (proofs/Laws.antt).
-use Rattle.std.specs.Prelude.{ℕ, eqb, if◌then◌else◌}
+-- A type table's text, and the names beside lent lists, as they are read. That a text is read as a table exactly if it is that table's text is the law
+-- `read-exactly` (proofs/Laws.antt); that names are read exactly if they are the lines of these, `named-exactly` (proofs/NamedLists.antt).
+use Rattle.std.specs.Prelude.{ℕ, ◌/◌, length, eqb, if◌then◌else◌}
 use mathlib.Core.List.{List, [], ◌∷◌, ◌++◌}
 use Rattle.std.proofs.Math.Option.{Option, none, some}
 use Rattle.text.specs.Text.{decimal, newline, comma}
@@ -7,6 +8,7 @@ use Rattle.text.specs.Reading.{◌>>=◌, Reader, give, read_field}
 use Rattle.text.specs.Format.{Format, bytes_line, after_literal, pair, times}
 use Rattle.pages.specs.Reading.{whole}
 use Rattle.tables.specs.Table.{Row, Named, name_text, count_names, type_names, field_names, constant_names, bytes_name, plain, most64, most32}
+use Rattle.tables.specs.Lists.{Names, with_names}
 
 -- a number that is at most `most`, and the byte after it
 unfoldable pub up_to : (most end : ℕ) → Format ℕ
@@ -52,3 +54,11 @@ named_of p = record { types = p.1.0; fields = p.1.1.0; constants = p.1.1.1.0; by
 -- the table whose text a text is, if it is one's
 unfoldable pub read_table : List ℕ → Option Named
 read_table t = table_format.read t >>= λ r. whole r >>= λ p. some (named_of p)
+
+unfoldable pub names_format : (types fields constants : ℕ) → Format Names
+names_format t f c = pair (times t name_format) λ _. pair (times f name_format) λ _. times c name_format
+
+-- the table that lies in lent lists; none where `names` is not a line of plain text for each type, field and constant
+unfoldable pub named_in : (types fields constants bytes names : List ℕ) → Option Named
+named_in w f c b names =
+    (names_format (length w / 4) (length f / 2) (length c / 3)).read names >>= λ r. whole r >>= λ n. some (with_names w f c b n)

@@ -16,8 +16,8 @@ use Rattle.refusal.specs.declared.Answer.{Answer}
 use Rattle.ty.specs.Check.{table_good}
 use Rattle.pages.specs.Answer.{text_answer, text_out}
 use Rattle.tables.specs.Table.{Named, most64, most32, table_text}
-use Rattle.tables.specs.Reading.{read_table}
-use Rattle.tables.specs.Lists.{numbers_in, all_names, good, named_in}
+use Rattle.tables.specs.Reading.{read_table, named_in}
+use Rattle.tables.specs.Lists.{numbers_in, all_names, good}
 use Rattle.tables.proofs.Laws as tables
 use Rattle.table_writer.specs.Writing.{table_in, writing, leaving}
 use Rattle.table_writer.proofs.TablesInLists.{lists-hold, Lying, lying}

@@ -1,6 +1,7 @@
 -- All tests of a joined collection can pass, by computation. Assumes nothing.
 use mathlib.Core.Path.{refl}
-use Rattle.word.specs.Lists.{all, all_below, tabulate, same_list}
+use Rattle.word.specs.Lists.{all, all_below, tabulate}
+use Rattle.word.specs.Same.{same_list}
 use Rattle.ty.specs.Check.{all_of, table_good}
 use Rattle.heap.specs.State.{times}
 use Rattle.heap.specs.Packing.{pad, flat, ends, data_at, start_of}

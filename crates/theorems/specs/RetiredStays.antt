@@ -6,7 +6,7 @@ use Rattle.heap.specs.Calls.{alloc_from, edit, write, reissue, take_into, free, 
 use Rattle.reach.specs.Reach.{Graph, Starts}
 use Rattle.flow.specs.Function.{Function}
 use Rattle.ty.specs.Types.{Table}
-use Rattle.collection.specs.Collected.{collected}
+use Rattle.collection.specs.Collecting.{collected}
 use Rattle.collection.specs.Joined.{joined}
 use Rattle.collection.specs.JoinedDemand.{Pinning}
 

@@ -14,7 +14,8 @@ use Rattle.heap.specs.Calls.{resolve}
 use Rattle.heap.proofs.Sound.{Sound}
 use Rattle.heap.proofs.Keeping.{live_inside}
 use Rattle.collection.proofs.SweptLaws.{resolved_live}
-use Rattle.collection.specs.Collected.{found, graph, starts, collected}
+use Rattle.collection.specs.Collected.{found, graph, starts}
+use Rattle.collection.specs.Collecting.{collected}
 use Rattle.collection.specs.Inner.Collects.{Collects}
 use Rattle.collection.proofs.Answers.{not-both}
 use Rattle.collection.proofs.Demand.{demand, found_ok}

@@ -6,8 +6,8 @@ use Rattle.text.specs.Reading.{give, ◌>>=◌}
 use Rattle.text.specs.Format.{read_all}
 use Rattle.pages.specs.Reading.{whole}
 use Rattle.tables.specs.Table.{Named, field, counts_line, table_text}
-use Rattle.tables.specs.Reading.{read_name}
-use Rattle.tables.specs.Lists.{names_format, with_names}
+use Rattle.tables.specs.Reading.{read_name, names_format}
+use Rattle.tables.specs.Lists.{with_names}
 use Rattle.tables.specs.Inner.Answer.{names_at}
 use Rattle.table_writer.specs.declared.NamesRead.{NamesRead}
 use Rattle.word.specs.Result.{Result}
