@@ -23,6 +23,7 @@ unfoldable pub numbers_line : (retiring : Bool) (tag since_gc reclaim_at live_by
 numbers_line retiring t s r l n f q z w =
     line (decimal t ∷ decimal s ∷ decimal r ∷ decimal l ∷ decimal n ∷ decimal f ∷ decimal q ∷ decimal z ∷ (if retiring then decimal w ∷ [] else []))
 
+-- line 2: the counts are those of the lists
 unfoldable pub heap_line : (retiring : Bool) → State → List ℕ
 heap_line r h =
     numbers_line r h.tag h.since_gc h.reclaim_at h.live_bytes (length h.slots) (length h.free) (length h.quarantine) (length h.sealed) (length h.retired)
@@ -30,6 +31,7 @@ heap_line r h =
 unfoldable pub retired_part : (retiring : Bool) → List ℕ → List ℕ
 retired_part r l = if r then retired_name ++ flat_map value_line l else []
 
+-- THE PAGE: "Names, then values in that order", line 2 with the counts, then the lists, one value a line, "in list order"
 unfoldable pub page_text : Form → State → List ℕ
 page_text f h =
     heap_names f ++ heap_line f.retiring h

@@ -74,5 +74,6 @@ unfoldable pub run_lines : (S P : ℕ) → List (List ℕ) → State → Changed
 run_lines S P [] h = done tt h
 run_lines S P (l ∷ ls) h = and_then (line_does S P (call_of l) h) (run_lines S P ls)
 
+-- a whole script
 unfoldable pub run_script : (S P : ℕ) → (text : List ℕ) → State → Changed Unit
 run_script S P t h = run_lines S P (lines t) h
