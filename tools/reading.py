@@ -2,8 +2,9 @@
 """Counts the lines of definitions that docs/READING.md names: those of each file, their sums, and for each theorem those that its statement rests on.
 
 usage: python3 tools/reading.py            at the top of the repository: writes the counts into docs/READING.md
-       python3 tools/reading.py --check    writes nothing: are the counts right, has each file the definitions that its row names, and does each definition that the contract of a
-                                           public call rests on stand in a file of the two tables? Else it says what is not so, with status 1
+       python3 tools/reading.py --check    writes nothing: are the counts right, has each file the definitions that its row names, does each definition that the contract of a public call
+                                           or the statement of a theorem rests on stand in a file of the tables or in that of a statement, and does no other stand in specs/ outside specs/Inner/? Else it
+                                           says what is not so, with status 1
        python3 tools/reading.py --names NAME..    lists what these definitions rest on, file by file (Demand, or collect_door.Demand where several crates have one)
 
 A line counts that is neither empty nor a comment nor an import. A definition rests on those that its lines name, and so on; a theorem on those that its statement names, which counts itself. Structs and
@@ -15,8 +16,6 @@ import sys
 
 PAGE = "docs/READING.md"
 IMPORTS = ("use ", "pub use ", "pub mod ", "mod ")
-# Calls that requests brought: the page says apart what the others rest on.
-REQUESTED = "rehearse roots_for same order read_table write_table slot_handles traceable".split()
 TOKEN = re.compile(r"[^\s(){}\[\],;]+")
 
 
@@ -151,25 +150,24 @@ class Book:
     def code_lines(self, nodes):
         return sum(self.code[n[1:]] for n in nodes if n[0] == "code")
 
-    def contracts(self, without=()):
-        """What the clauses of the public calls name, but of these."""
-        out = set()
-        for path, text in self.sources.items():
-            # the exports have the clauses of the calls
-            if not path.startswith("crates/yexwalu_c/"):
-                scope = {}
-                for line in re.findall(r"^ghost use ([^;]+);", text, re.M):
-                    scope.update(brought(line))
-                for name, call in re.findall(r"^pub fn yexwalu_(\w+)(.*?)^\{", text, re.M | re.S):
-                    if name not in without:
-                        out |= self.named(call, scope, {})
-        return out
+    def clauses(self, path, prefix=""):
+        """What the clauses of a file's functions of such names name."""
+        text, scope = self.sources[path], {}
+        for line in re.findall(r"^ghost use ([^;]+);", text, re.M):
+            scope.update(brought(line))
+        return set().union(*(self.named(call, scope, {}) for call in re.findall(rf"^pub fn {prefix}(.*?)^\{{", text, re.M | re.S)))
+
+    def contracts(self):
+        """What the clauses of the public calls name; the exports have the clauses of the calls."""
+        return set().union(*(self.clauses(path, "yexwalu_") for path in self.sources if not path.startswith("crates/yexwalu_c/")))
 
     def statement(self, cell, before):
         """The definitions that a row of theorems names, and the crates where they stand, those of the row before where it names none."""
         crates = re.findall(r"crates/(\w+)", cell) or before
         names = [n for n in re.findall(r"`([^`\s]+)`", cell) if not n.startswith("yexwalu_")]
         found = {("spec", m, n) for m, f in self.files.items() if m.split(".")[0] in crates for n in f.items if n in names}
+        for path in re.findall(r"the contracts of (crates/\S+\.rt)", cell):
+            found |= self.clauses(path)
         if not names:
             for path in re.findall(r"crates/\S+?\.antt", cell):
                 found |= {("spec", module_of(path), n) for n, ls in self.files[module_of(path)].items.items() if ls[-1].lstrip().startswith("pub ")}
@@ -199,8 +197,8 @@ def main():
             print(f"{name}: {book.lines(rest)} lines, and {book.code_lines(rest)} of structs and enums of code")
         return 0
     rows = read(PAGE).split("\n")
-    wrong, out, listed, here, total, crates = [], [], set(), set(), 0, []
-    needed, base = book.rests(book.contracts()), book.rests(book.contracts(REQUESTED))
+    wrong, out, listed, here, total, crates, stated = [], [], set(), set(), 0, [], set()
+    needed = book.rests(book.contracts())
     for row in rows:
         cells = [c.strip() for c in row.strip().strip("|").split("|")]
         if row.startswith("| ") and len(cells) == 5 and cells[3].endswith(".antt"):
@@ -212,16 +210,23 @@ def main():
             nodes, crates = book.statement(cells[1], crates)
             if not nodes:
                 wrong.append(f"a statement that is not found: {cells[1]}")
+            stated |= nodes
             row = re.sub(r"\| [\d,]* *\|$", f"| {book.lines(book.rests(nodes)):,} |", row)
         elif re.match(r"[\d,]+ lines in \d+ files", row):
             row = re.sub(r"^[\d,]+ lines in \d+ files", f"{total:,} lines in {len(here)} files", row)
             row = re.sub(r"rest on [\d,]+ lines of specs/ and [\d,]+", f"rest on {book.lines(needed):,} lines of specs/ and {book.code_lines(needed):,}", row)
-            row = re.sub(r"without them: [\d,]+", f"without them: {book.lines(base):,}", row)
             listed, here, total = listed | here, set(), 0
         out.append(row)
-    for node in sorted(needed):
-        if node[0] == "spec" and book.files[node[1]].path not in listed:
-            wrong.append(f"a public contract rests on it, and it is in no table: {node[2]} in {book.files[node[1]].path}")
+    read_of = needed | book.rests(stated)
+    stating = {n[1] for n in stated if n[0] == "spec"}
+    for node in sorted(read_of):
+        if node[0] == "spec" and ".specs." in node[1] and book.files[node[1]].path not in listed and node[1] not in stating:
+            wrong.append(f"a contract or a theorem rests on it, and it is in no table: {node[2]} in {book.files[node[1]].path}")
+    for module, file in sorted(book.files.items()):
+        for name in file.items if ".specs." in module else []:
+            inner = ".specs.Inner." in module
+            if inner == (("spec", module, name) in read_of):
+                wrong.append(f"{'a contract or a theorem rests' if inner else 'no public contract and no theorem rests'} on {name} in {file.path}")
     if "--check" in sys.argv:
         wrong += [f"{PAGE}, line {i + 1}, not as counted: {row}" for i, (row, new) in enumerate(zip(rows, out)) if row != new]
     elif out != rows:

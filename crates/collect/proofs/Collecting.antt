@@ -18,10 +18,11 @@ use Rattle.heap.specs.State.{State}
 use Rattle.heap.specs.Lent.{Lent, header_of, stored, view, slot_count, pool_size}
 use Rattle.heap.specs.WellFormed.{well_formed}
 use Rattle.heap.specs.Calls.{Changed, refuse, done}
-use Rattle.heap.specs.Done.{Leaves, Tells}
+use Rattle.heap.specs.Done.{Leaves}
+use Rattle.heap.specs.Inner.Tells.{Tells}
 use Rattle.heap.proofs.Packing.{get_or-pad}
 use Rattle.heap.proofs.Sound.{Sound}
-use Rattle.heap_calls.specs.Pins.{marked_slots}
+use Rattle.heap_calls.specs.Inner.Marks.{marked_slots}
 use Rattle.heap.proofs.Testing.{formed-tested}
 use Rattle.ty.specs.Types.{Table}
 use Rattle.reach.specs.Reach.{Starts}
@@ -29,7 +30,8 @@ use Rattle.reach.specs.Marking.{State as Marks, marking}
 use Rattle.reach.proofs.Sound.{marks-length}
 use Rattle.collection.specs.Swept.{swept}
 use Rattle.collection.specs.Shown.{shown}
-use Rattle.collection.specs.Collected.{graph, starts, swept_by, collected}
+use Rattle.collection.specs.Collected.{graph, starts}
+use Rattle.collection.specs.Collecting.{swept_by, collected}
 use Rattle.collection.specs.Inner.Held.{held_graph}
 use Rattle.collection.specs.Joined.{joined_by}
 use Rattle.collection.proofs.SweptLaws.{swept_same}
@@ -37,7 +39,8 @@ use Rattle.collection.proofs.Demand.{sized, stuck-collected}
 use Rattle.collection.proofs.Held.{dead-shows, held-sized, held-refused, held-collected}
 use Rattle.mark.specs.Inner.Told.{told, marks_in, heap_marks, Ready}
 use Rattle.mark.specs.Inner.Joining.{joined_marks}
-use Rattle.collect.specs.Collect.{collecting, finished, CanCollect}
+use Rattle.collect.specs.Collect.{collecting}
+use Rattle.collect.specs.Inner.Finished.{finished, CanCollect}
 
 -- ---- what follows a marking
 

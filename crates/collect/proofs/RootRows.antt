@@ -16,7 +16,7 @@ use Rattle.std.specs.Prelude.{Err}
 use Rattle.ty.specs.Types.{Table}
 use Rattle.heap.specs.Lent.{Lent as Heap, view}
 use Rattle.heap.specs.WellFormed.{well_formed}
-use Rattle.heap.specs.Done.{Tells}
+use Rattle.heap.specs.Inner.Tells.{Tells}
 use Rattle.heap.proofs.Testing.{formed-tested}
 use Rattle.flow.specs.Function.{safepoint}
 use Rattle.flow.specs.Dataflow.{live_before, live_row, holder, track}

@@ -1,2 +1,3 @@
 -- What only the contracts of inner functions cite.
+pub mod Finished
 pub mod Safepoint

@@ -8,7 +8,7 @@ ghost use Rattle.roots.specs.Calls.{function, right, need};
 ghost use Rattle.roots.specs.Inner.Plans.{lent as lent_code};
 ghost use Rattle.mark.specs.Inner.Safepoints.{live_values, handles_in, pinned_in};
 ghost use Rattle.collection.specs.Joined.{joined_by};
-ghost use Rattle.collect.specs.Collect.{CanCollect};
+ghost use Rattle.collect.specs.Inner.Finished.{CanCollect};
 ghost use Rattle.collect.specs.Inner.Safepoint.{at_safepoint, CanLook, RootRow};
 
 use crate::sweep_after;

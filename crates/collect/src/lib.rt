@@ -7,7 +7,8 @@ ghost use Rattle.refusal.specs.Told.{nothing};
 ghost use Rattle.heap.specs.Lent.{slot_count};
 ghost use Rattle.heap.specs.Inner.Loans.{lies, state, Replies};
 ghost use Rattle.ty.specs.View.{lent as table_lent};
-ghost use Rattle.collect.specs.Collect.{collecting, finished, CanCollect};
+ghost use Rattle.collect.specs.Collect.{collecting};
+ghost use Rattle.collect.specs.Inner.Finished.{finished, CanCollect};
 
 use heap::view_mut::ViewMut;
 use heap_calls::pinned::{Pinned, Pins};

@@ -19,15 +19,17 @@ use Rattle.ty.specs.Check.{table_good}
 use Rattle.heap.specs.Lent.{Lent, view, slot_count}
 use Rattle.heap.specs.WellFormed.{well_formed}
 use Rattle.heap.specs.Calls.{refuse}
-use Rattle.heap.specs.Done.{Tells}
+use Rattle.heap.specs.Inner.Tells.{Tells}
 use Rattle.heap.proofs.Testing.{formed-tested}
 use Rattle.heap_calls.specs.Pins.{rising}
 use Rattle.addresses.specs.Listed.{paired}
 use Rattle.flow.specs.Function.{safepoint}
 use Rattle.roots.specs.Calls.{Lent as Code, function, right, need}
-use Rattle.collect.specs.Collect.{collecting, CanCollect}
+use Rattle.collect.specs.Collect.{collecting}
+use Rattle.collect.specs.Inner.Finished.{CanCollect}
 use Rattle.collect.specs.Inner.Safepoint.{at_safepoint, CanLook}
-use Rattle.door.specs.HeapCalls.{Test, test, admitted, enough, zeros, scratch_after, Entered, outcome, outcome_of}
+use Rattle.door.specs.HeapCalls.{Test, test, admitted, enough, zeros, scratch_after, outcome, outcome_of}
+use Rattle.door.specs.Inner.Entered.{Entered}
 use Rattle.door.specs.HeapCalls.{Entry}
 use Rattle.door.specs.HeapCalls.{ready}
 use Rattle.door.proofs.Entering.{fails, passes, more-ready, and-holds, and-fails, and-more, cleared-in, holding, call-refused, call-cleared, marks-zero, work-zero, rows-zero, zeros-again, zeros-room}

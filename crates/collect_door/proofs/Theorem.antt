@@ -23,8 +23,9 @@ use Rattle.reach.specs.Reach.{Graph, Starts, UntraceableFrom}
 use Rattle.collection.specs.Swept.{swept}
 use Rattle.collection.specs.Shown.{shown}
 use Rattle.collection.specs.Collected.{graph}
-use Rattle.collection.specs.Demand.{Survived, Collects}
-use Rattle.collection.specs.JoinedDemand.{Untraceable as CannotTrace, Joins}
+use Rattle.collection.specs.Demand.{Survived}
+use Rattle.collection.specs.Inner.Collects.{Collects, Joins}
+use Rattle.collection.specs.JoinedDemand.{Untraceable as CannotTrace}
 use Rattle.collection.proofs.Answers.{not-both, two-answers}
 use Rattle.collection.proofs.Demand.{collect-demand, collected-by, collected-sound, marks-there}
 use Rattle.collection.proofs.JoinedDemand.{joined-demand, joined_by, joined-answers, joined-sound}

@@ -16,7 +16,8 @@ use Rattle.heap_calls.specs.Pins.{rising}
 use Rattle.flow.specs.Function.{safepoint}
 use Rattle.roots.specs.Calls.{Lent as Code, function, right, need}
 use Rattle.addresses.specs.Listed.{paired}
-use Rattle.collection.specs.Joined.{Pinning, joined}
+use Rattle.collection.specs.Joined.{joined}
+use Rattle.collection.specs.JoinedDemand.{Pinning}
 use Rattle.collect.specs.Collect.{collecting}
 use Rattle.door.specs.HeapCalls.{Test, test, enough, heap_tests, Outcome, calling}
 

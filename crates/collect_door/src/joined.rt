@@ -3,7 +3,8 @@ ghost use Rattle.std.specs.Prelude.{◌≡◌, [], ◌∷◌, ◌++◌, ◌+◌,
 ghost use Rattle.heap.specs.Lent.{lent};
 ghost use Rattle.roots.specs.Calls.{need};
 ghost use Rattle.roots.specs.Inner.Plans.{lent as code_lent};
-ghost use Rattle.door.specs.HeapCalls.{Entered, admitted, outcome_of};
+ghost use Rattle.door.specs.HeapCalls.{admitted, outcome_of};
+ghost use Rattle.door.specs.Inner.Entered.{Entered};
 ghost use Rattle.collect_door.specs.Calls.{row_tests, input_tests, joined_call};
 ghost use Rattle.collect_door.specs.Demand.{Demand};
 

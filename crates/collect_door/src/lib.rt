@@ -4,7 +4,8 @@
 
 ghost use Rattle.std.specs.Prelude.{◌≡◌, [], ◌∷◌};
 ghost use Rattle.heap.specs.Lent.{lent};
-ghost use Rattle.door.specs.HeapCalls.{Entered, admitted, outcome};
+ghost use Rattle.door.specs.HeapCalls.{admitted, outcome};
+ghost use Rattle.door.specs.Inner.Entered.{Entered};
 ghost use Rattle.collect_door.specs.Calls.{given_tests, collect_tests, collect_call};
 ghost use Rattle.collect_door.specs.Demand.{RightlyCollected};
 

@@ -9,7 +9,7 @@ use Rattle.word.specs.Result.{Result, ok, refused}
 use Rattle.heap.specs.State.{State}
 use Rattle.reach.specs.Reach.{Graph, Starts}
 use Rattle.reach.specs.Marking.{State as Marks, marking}
-use Rattle.collection.specs.Collected.{swept_by, collected}
+use Rattle.collection.specs.Collecting.{swept_by, collected}
 
 -- an answer is a success or one refusal
 pub not-both : {X : Type 0} (r : Result Unit) (n : ℕ) → r ≡ ok tt → r ≡ refused n → X

@@ -22,8 +22,10 @@ use Rattle.reach.proofs.Sound.{Sized, Marked, Answer, marking-answer, reached-in
 use Rattle.collection.specs.Swept.{swept}
 use Rattle.heap.proofs.Keeping.{live_inside}
 use Rattle.collection.proofs.SweptLaws.{swept-sound, swept_same, survivor, only-marked, resolved_live, resolved-before, outlives}
-use Rattle.collection.specs.Collected.{found, graph, starts, swept_by, collected}
-use Rattle.collection.specs.Demand.{Survived, Collects}
+use Rattle.collection.specs.Collected.{found, graph, starts}
+use Rattle.collection.specs.Collecting.{swept_by, collected}
+use Rattle.collection.specs.Demand.{Survived}
+use Rattle.collection.specs.Inner.Collects.{Collects}
 
 pub found_ok : (r : Result ℕ) (i : ℕ) → found r ≡ some i → r ≡ ok i
 found_ok (ok j) i e = let w : j ≡ i = cc in ap ok w

@@ -11,7 +11,8 @@ use Rattle.heap.specs.State.{Slot, State, times}
 use Rattle.heap.specs.Calls.{Changed, refuse, recycle, resolve}
 use Rattle.reach.specs.Marking.{visit, follow, drained, marking}
 use Rattle.collection.specs.Swept.{dropped, drop_slots, live_size, drop_unmarked, swept}
-use Rattle.collection.specs.Collected.{graph, starts, collected}
+use Rattle.collection.specs.Collected.{graph, starts}
+use Rattle.collection.specs.Collecting.{collected}
 
 abbrev object : (generation : ℕ) → Slot
 object g = record { generation = g; kind = 3; type = 0; start = 0; writes = 0; bytes = [] }

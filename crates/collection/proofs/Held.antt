@@ -17,14 +17,15 @@ use Rattle.trace.specs.Places.{words_at, kind_places, handles_of}
 use Rattle.heap.specs.State.{State, slot_at, live, bit, times}
 use Rattle.heap.specs.Calls.{member, done}
 use Rattle.heap.proofs.Sound.{Sound}
-use Rattle.heap_calls.specs.Pins.{marked_slots}
+use Rattle.heap_calls.specs.Inner.Marks.{marked_slots}
 use Rattle.heap_calls.proofs.Marked.{mark-there}
 use Rattle.reach.specs.Reach.{Graph, Starts, First, Next, Reached, UntraceableFrom, ◌∈◌}
 use Rattle.reach.specs.Marking.{State as Marks, marking}
 use Rattle.reach.proofs.Sound.{Sized, Marked, Answer, marking-answer, reached-first, reached-next, reached-ind, refused as stuck-exactly}
 use Rattle.collection.specs.Swept.{swept}
 use Rattle.collection.specs.Shown.{shown}
-use Rattle.collection.specs.Collected.{graph, collected}
+use Rattle.collection.specs.Collected.{graph}
+use Rattle.collection.specs.Collecting.{collected}
 use Rattle.collection.specs.Inner.Held.{held_graph}
 use Rattle.heap.proofs.Keeping.{live_inside}
 use Rattle.collection.proofs.Pinned.{in-member, member-in}

@@ -17,13 +17,15 @@ use Rattle.flow.specs.Function.{Function, valid, safepoint}
 use Rattle.addresses.specs.Listed.{paired}
 use Rattle.reach.specs.Reach.{Graph, Starts, First, Chain, Reached, UntraceableFrom, ◌∈◌}
 use Rattle.collection.specs.Swept.{swept}
-use Rattle.collection.specs.Collected.{graph, starts, collected}
-use Rattle.collection.specs.Demand.{Survived, Collects}
+use Rattle.collection.specs.Collected.{graph, starts}
+use Rattle.collection.specs.Collecting.{collected}
+use Rattle.collection.specs.Demand.{Survived}
+use Rattle.collection.specs.Inner.Collects.{Collects, Joins}
 use Rattle.collection.proofs.Answers.{two-answers}
 use Rattle.collection.proofs.Demand.{collect-demand, collected-by, collected-sound}
 use Rattle.collection.specs.Shown.{shown}
-use Rattle.collection.specs.Joined.{root_registers, values_of, Pinning, pins_at, joined}
-use Rattle.collection.specs.JoinedDemand.{JoinedStarts, Joins}
+use Rattle.collection.specs.Joined.{root_registers, values_of, pins_at, joined}
+use Rattle.collection.specs.JoinedDemand.{Pinning, JoinedStarts}
 use Rattle.collection.proofs.Pinned.{same-members}
 use Rattle.collection.proofs.SweptLaws.{swept-pins}
 use Rattle.collection.proofs.Registers.{joined-starts}

@@ -14,7 +14,7 @@ use Rattle.flow.specs.Function.{Function, reads, writes, successors}
 use Rattle.flow.specs.Dataflow.{gen, kill, live_in, live_before, live_row, track}
 use Rattle.reach.specs.Marking.{visit, follow, drained, marking}
 use Rattle.collection.specs.Swept.{dropped, drop_slots, live_size, drop_unmarked, swept}
-use Rattle.collection.specs.Collected.{collected}
+use Rattle.collection.specs.Collecting.{collected}
 use Rattle.addresses.specs.Listed.{slot_of, slots_of}
 use Rattle.collection.specs.Joined.{live_references, registers_of, values_of, pins_at, joined}
 

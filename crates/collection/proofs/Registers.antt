@@ -18,8 +18,8 @@ use Rattle.addresses.specs.Listed.{paired, slots_of}
 use Rattle.addresses.proofs.Listing.{slots-listed}
 use Rattle.reach.specs.Reach.{◌∈◌}
 use Rattle.collection.specs.Collected.{starts}
-use Rattle.collection.specs.Joined.{is_reference, live_references, registers_of, root_registers, pointer_registers, values_of, Pinning, pins_at}
-use Rattle.collection.specs.JoinedDemand.{LiveValue, AddressPin, JoinedStarts}
+use Rattle.collection.specs.Joined.{is_reference, live_references, registers_of, root_registers, pointer_registers, values_of, pins_at}
+use Rattle.collection.specs.JoinedDemand.{Pinning, LiveValue, AddressPin, JoinedStarts}
 
 -- rising, and exactly the registers of classes 2 and 4 that some walk reads before writing
 pub live-references : (f : Function) (pc : ℕ) → valid f ≡ true → safepoint f pc ≡ true → LiveList f is_reference pc (live_references f pc)

@@ -22,9 +22,12 @@ use Rattle.reach.specs.Marking.{State as Marks, marking}
 use Rattle.reach.proofs.Sound.{reached-first, reached-next, reached-ind}
 use Rattle.collection.specs.Swept.{goes, dropped, drop_slots, live_size, drop_unmarked, swept}
 use Rattle.collection.specs.Shown.{shown}
-use Rattle.collection.specs.Collected.{found, graph, starts, swept_by, collected}
-use Rattle.collection.specs.Joined.{values_of, root_registers, Pinning, pins_at, joined}
-use Rattle.collection.specs.Demand.{Survived, Collects}
+use Rattle.collection.specs.Collected.{found, graph, starts}
+use Rattle.collection.specs.Collecting.{swept_by, collected}
+use Rattle.collection.specs.Joined.{values_of, root_registers, pins_at, joined}
+use Rattle.collection.specs.JoinedDemand.{Pinning}
+use Rattle.collection.specs.Demand.{Survived}
+use Rattle.collection.specs.Inner.Collects.{Collects}
 use Rattle.collection.proofs.Answers.{not-both}
 use Rattle.collection.proofs.Dropping.{dropped-none}
 use Rattle.collection.proofs.SweptLaws.{resolved_live, swept-sealed}

@@ -1,9 +1,9 @@
 -- Demand 3, in its own words: what is right of a collection's answer, said by chains of objects (crate `reach`), with no word of marks or worklists.
 use Rattle.std.specs.Prelude.{◌≡◌, true, ◌↔◌, ℕ}
-use Rattle.word.specs.Result.{ok, refused}
+use Rattle.word.specs.Result.{ok}
 use Rattle.heap.specs.State.{State, slot_at, live}
-use Rattle.heap.specs.Calls.{Changed, resolve}
-use Rattle.reach.specs.Reach.{Graph, Starts, Reached, UntraceableFrom}
+use Rattle.heap.specs.Calls.{resolve}
+use Rattle.reach.specs.Reach.{Graph, Starts, Reached}
 
 -- h before a collection that succeeds, h' after it
 pub record Survived (G : Graph) (S : Starts) (h h' : State) : Type 0 where
@@ -14,12 +14,3 @@ pub record Survived (G : Graph) (S : Starts) (h h' : State) : Type 0 where
   pub known : (x o : ℕ) → resolve h' x ≡ ok o → resolve h x ≡ ok o
   -- survivors keep bytes, start, kind, type, generation and write count
   pub same : (o : ℕ) → Reached G S o → slot_at h' o ≡ slot_at h o
-
--- what a collection of h has to answer and leave
-pub record Collects (G : Graph) (S : Starts) (h : State) (r : Changed Unit) : Type 0 where
-  -- refused exactly when a reached object can't be traced, and then the heap is unchanged
-  pub untraceable : (r.answer ≡ refused 13) ↔ UntraceableFrom G S
-  pub unchanged : r.answer ≡ refused 13 → r.heap ≡ h
-  -- otherwise it succeeds
-  pub succeeds : (UntraceableFrom G S → ⊥) → r.answer ≡ ok tt
-  pub survived : r.answer ≡ ok tt → Survived G S h r.heap

@@ -9,8 +9,10 @@ use Rattle.heap.specs.Calls.{Changed, refuse}
 use Rattle.flow.specs.Function.{Function}
 use Rattle.flow.specs.Dataflow.{live_row, track}
 use Rattle.addresses.specs.Listed.{slots_of}
-use Rattle.collection.specs.Collected.{graph, starts, collected}
+use Rattle.collection.specs.Collected.{graph, starts}
+use Rattle.collection.specs.Collecting.{collected}
 use Rattle.collection.specs.Shown.{shown}
+use Rattle.collection.specs.JoinedDemand.{Pinning}
 
 -- classes 2 and 4: Ptr and Handle
 abbrev pub is_reference : ℕ → Bool
@@ -46,12 +48,6 @@ values_of values (r ∷ rs) = get_or values r 0 ∷ values_of values rs
 abbrev pub joined_by : Table → (frame : Option (List ℕ)) (values pins : List ℕ) → State → Changed Unit
 joined_by T none values pins h = refuse 13 h
 joined_by T (some handles) values pins h = collected (graph h (shown T h)) (starts h (handles ++ values) pins) h
-
--- What pins (request [4]): the pins that are given, the list of addresses with their slots, and the addresses of the frame.
-pub record Pinning : Type 0 where
-  pub given : List ℕ
-  pub listed : List ℕ
-  pub framed : List ℕ
 
 -- "Each address from the frame map and from a live register of class 2 that is in the list then counts as a pin on that slot"
 unfoldable pub pins_at : Function → (pc : ℕ) (values : List ℕ) → Pinning → List ℕ

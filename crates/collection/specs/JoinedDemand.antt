@@ -2,17 +2,19 @@
 -- (crate `flow`), with no word of worklists, bit rows or dataflow.
 use Rattle.std.specs.Prelude.{◌≡◌, ◌⊎◌, ◌↔◌, List, ℕ, get_or}
 use Rattle.std.proofs.Math.Option.{Option, none, some}
-use Rattle.word.specs.Result.{ok, refused}
 use Rattle.ty.specs.Types.{Table}
 use Rattle.heap.specs.State.{State}
-use Rattle.heap.specs.Calls.{Changed}
 use Rattle.flow.specs.Function.{Function, Live}
 use Rattle.addresses.specs.Listed.{Listed}
 use Rattle.reach.specs.Reach.{Starts, UntraceableFrom, ◌∈◌}
 use Rattle.collection.specs.Collected.{graph}
-use Rattle.collection.specs.Demand.{Collects}
 use Rattle.collection.specs.Shown.{shown}
-use Rattle.collection.specs.Joined.{Pinning}
+
+-- What pins (request [4]): the pins that are given, the list of addresses with their slots, and the addresses of the frame.
+pub record Pinning : Type 0 where
+  pub given : List ℕ
+  pub listed : List ℕ
+  pub framed : List ℕ
 
 -- x is the value of a register of this class that is live before instruction pc: some walk from there reads the register before writing it
 pub record LiveValue (of : ℕ) (f : Function) (pc : ℕ) (values : List ℕ) (x : ℕ) : Type 0 where
@@ -42,14 +44,3 @@ pub record UntraceableAt (T : Table) (f : Function) (pc : ℕ) (values handles :
 -- the frame map can't be traced, or an object that such a chain leads to; `frame` are the frame's handles, none where the frame map can't be traced
 abbrev pub Untraceable : Table → Function → (pc : ℕ) (values : List ℕ) (frame : Option (List ℕ)) (pins : Pinning) → State → Type 0
 Untraceable T f pc values frame pins h = (frame ≡ none) ⊎ ((handles : List ℕ) × (frame ≡ some handles) × UntraceableAt T f pc values handles pins h)
-
--- what the joined collection of h at pc has to answer and leave
-pub record Joins (T : Table) (f : Function) (pc : ℕ) (values : List ℕ) (frame : Option (List ℕ)) (pins : Pinning) (h : State) (r : Changed Unit) : Type 0 where
-  -- refused exactly when the frame map or a reached object can't be traced, and then the heap is unchanged
-  pub untraceable : (r.answer ≡ refused 13) ↔ Untraceable T f pc values frame pins h
-  pub unchanged : r.answer ≡ refused 13 → r.heap ≡ h
-  -- there is such a start for chains wherever the frame map can be traced
-  pub begins : (handles : List ℕ) → frame ≡ some handles → (S : Starts) × JoinedStarts f pc values handles h.sealed pins S
-  -- otherwise it succeeds, an object outlives it exactly if it was reached, nothing else is live afterwards, and survivors are as they were
-  pub succeeds : (frame ≡ none → ⊥) → ((handles : List ℕ) → frame ≡ some handles → UntraceableAt T f pc values handles pins h → ⊥) → r.answer ≡ ok tt
-  pub collects : (handles : List ℕ) → frame ≡ some handles → (S : Starts) → JoinedStarts f pc values handles h.sealed pins S → Collects (graph h (shown T h)) S h r

@@ -4,4 +4,5 @@ pub mod Collected
 pub mod Demand
 pub mod Joined
 pub mod JoinedDemand
+pub mod Collecting
 pub mod Inner

@@ -13,15 +13,16 @@ use Rattle.heap.specs.State.{State}
 use Rattle.heap.specs.Lent.{Lent, stored, view, slot_count, pool_size}
 use Rattle.heap.specs.WellFormed.{well_formed}
 use Rattle.heap.specs.Calls.{Changed}
-use Rattle.heap.specs.Done.{Tells}
+use Rattle.heap.specs.Inner.Tells.{Tells}
 use Rattle.refusal.specs.Told.{number_of, refused_by, told, answered}
 use Rattle.refusal.specs.declared.Refusal.{Refusal}
 use Rattle.refusal.specs.declared.Refusal.TheVariants.{BrokenHeap, Scratch}
 use Rattle.refusal.specs.declared.Answer.{Answer}
 use Rattle.refusal.specs.Told.{Reply}
 use Rattle.std.specs.Prelude.{Err}
-use Rattle.door.specs.HeapCalls.{Test, test, admitted, whether, enough, heap_tests, zeros, scratch_after, Entered, outcome_of, calling, asked_of, asking}
-use Rattle.door.specs.HeapCalls.{Entry, entry_of}
+use Rattle.door.specs.HeapCalls.{Test, test, admitted, whether, enough, heap_tests, zeros, scratch_after, outcome_of, calling, asked_of, asking}
+use Rattle.door.specs.Inner.Entered.{Entered, entry_of}
+use Rattle.door.specs.HeapCalls.{Entry}
 use Rattle.std.specs.Prelude.{Result as Outcomes, Ok, IfOk, MatchResult}
 use Rattle.heap.specs.Inner.Seen.{seen, state}
 use Rattle.heap.specs.declared.view.View.{View}

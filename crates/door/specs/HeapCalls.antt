@@ -1,6 +1,6 @@
 -- The public calls on a heap (01, "What the host is told"): tests in 01's order, 18 and 1 first, then what the call itself answers and does, in numbers.
 -- A refusal changes nothing but what the call says; scratch is zero after every answer but 18.
-use Rattle.std.specs.Prelude.{◌≡◌, Bool, ◌&&◌, List, [], ◌∷◌, map, ℕ, length, replicate, eqb, leb, if◌then◌else◌}
+use Rattle.std.specs.Prelude.{Bool, ◌&&◌, List, [], ◌∷◌, map, ℕ, length, replicate, eqb, leb, if◌then◌else◌}
 use Rattle.word.specs.Result.{Result}
 use Rattle.heap.specs.State.{State}
 use Rattle.heap.specs.Lent.{Lent, stored, view, slot_count, pool_size}
@@ -34,11 +34,6 @@ unfoldable pub admitted : List Test → Entry
 admitted [] = ready
 admitted (t ∷ ts) = if t.holds then admitted ts else Err t.why
 
--- what the tests found, of a call that then has a value in hand
-abbrev pub entry_of : {A : Type 0} → Outcomes A Refusal → Entry
-entry_of (Ok a) = ready
-entry_of (Err why) = Err why
-
 -- what follows a refusal, and what follows if there is none
 abbrev pub whether : {X : Type 0} → Entry → (Refusal → X) → X → X
 whether (Ok _) turned done = done
@@ -64,11 +59,6 @@ zeros xs = replicate (length xs) 0
 abbrev pub scratch_after : Entry → List (List ℕ) → List (List ℕ)
 scratch_after (Ok _) scratch = map zeros scratch
 scratch_after (Err why) scratch = if eqb (number_of why) 18 then scratch else map zeros scratch
-
--- what the tests found, and the scratch that they left
-pub record Entered (scratch : List (List ℕ)) (tests : List Test) (e : Entry) (scratch' : List (List ℕ)) : Type 0 where
-  pub found : e ≡ admitted tests
-  pub left : scratch' ≡ scratch_after e scratch
 
 -- ---- calls that may change the heap
 

@@ -4,7 +4,8 @@
 ghost use Rattle.std.specs.Prelude.{◌≡◌, [], ◌∷◌, ◌&&◌, ◌/◌, length, leb, IfOk};
 ghost use Rattle.heap.specs.Lent.{lent};
 ghost use Rattle.heap.specs.Inner.Seen.{seen};
-ghost use Rattle.door.specs.HeapCalls.{Entered, heap_tests, entry_of};
+ghost use Rattle.door.specs.HeapCalls.{heap_tests};
+ghost use Rattle.door.specs.Inner.Entered.{Entered, entry_of};
 
 use heap::Heap;
 use heap::view::View;

@@ -1,10 +1,5 @@
 -- From what `read_page` ensures to what a page shows. Assumes nothing.
 use Prim.Native.Nat.{ℕ, ◌/◌}
-use mathlib.Core.Bool.{true}
-use mathlib.Core.List.{List}
-use mathlib.Core.Path.{◌≡◌, refl, sym, ap, ◌∙◌}
-use native.Mathlib.Omega.{arith}
-use lib.ListN.{length}
 use Rattle.word.specs.Result.{Result, ok, refused}
 use Rattle.refusal.specs.Told.{answered}
 use Rattle.refusal.specs.declared.Answer.{Answer}
@@ -16,7 +11,6 @@ use Rattle.heap.proofs.Placing.{count-is, pool-long}
 use Rattle.heap.proofs.Storing.{view-stored}
 use Rattle.door.specs.HeapCalls.{Outcome, outcome, enough}
 use Rattle.door.proofs.Entering.{is-enough}
-use Rattle.pages.specs.Page.{read_page}
 use Rattle.page_parser.specs.Contents.{form_in}
 use Rattle.page_check.specs.Verdict.{verdict}
 use Rattle.page_reader.specs.Reading.{bits_met, names_met, in_range, Left, left, read_into}
@@ -26,6 +20,12 @@ use Rattle.figures.specs.declared.Figures.{Figures}
 use Rattle.std.specs.Prelude.{Result as Answered, Ok, Err, IfOk}
 use Rattle.figures.specs.Figures.{no_figures, figures_of, page_figures}
 use Rattle.figures.specs.Inner.Counting.{shown_as, line_of, Lies, Small}
+use Rattle.pages.specs.Reading.{read_page}
+use mathlib.Core.Bool.{true}
+use mathlib.Core.List.{List}
+use mathlib.Core.Path.{◌≡◌, refl, sym, ap, ◌∙◌}
+use native.Mathlib.Omega.{arith}
+use lib.ListN.{length}
 
 pub small-none : Small no_figures
 small-none = record { objects = omega arith; bytes = omega arith }

@@ -1,12 +1,12 @@
 -- What a page shows (request [14]): how many objects it has, the bytes of their data, the largest of them; and the line that is printed of it.
 use Rattle.std.specs.Prelude.{ℕ, ◌+◌, ◌/◌, ◌%◌, max, true, eqb, length, if◌then◌else◌}
-use mathlib.Core.List.{List, [], ◌∷◌, map, foldr}
 use Rattle.word.specs.Result.{Result, ok, ◌>>=◌}
 use Rattle.text.specs.Text.{decimal, line}
 use Rattle.heap.specs.State.{Slot, live}
-use Rattle.pages.specs.Page.{read_page}
 use Rattle.page_check.specs.Verdict.{verdict}
 use Rattle.figures.specs.declared.Figures.{Figures}
+use Rattle.pages.specs.Reading.{read_page}
+use mathlib.Core.List.{List, [], ◌∷◌, map, foldr}
 
 -- without objects
 abbrev pub no_figures : Figures

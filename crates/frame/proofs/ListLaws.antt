@@ -1,20 +1,20 @@
 -- Two checks that count, and then two runs of stores: what a call that lists a frame's roots does. Assumes nothing.
 use Prim.Native.Nat.{ℕ, ◌-◌, ◌^◌, ◌≤◌, ◌<◌}
+use Rattle.std.specs.Prelude.{Some, None, Ok, Err}
+use Rattle.word.specs.Result.{Result, ok, refused}
+use Rattle.refusal.specs.declared.Refusal.TheVariants.{Untraceable as Failed, ShortList}
+use Rattle.trace.specs.Inner.Emit.{Answer, Raw, raw_of, Into, into, emit_all, emitting, told}
+use Rattle.trace.specs.declared.Sink.TheVariants.{Check, List as ToList}
+use Rattle.trace.proofs.Emits.{ok-inj, told-traced, told-untraceable}
+use Rattle.traced.proofs.ListLaws.{checked-short, checked-fits, listed}
+use Rattle.frame.specs.Listing.{roots_listing}
+use Rattle.frame.specs.Inner.Frames.{Frames}
 use mathlib.Core.Path.{◌≡◌, refl, ap, ◌∙◌}
 use mathlib.Core.Option.{Option, none, some}
 use mathlib.Core.List.{List}
 use lib.ListN.{length}
 use borrow.Author.Tests.{le-leb, lt-leb}
 use native.Mathlib.Omega.{arith}
-use Rattle.std.specs.Prelude.{Some, None}
-use Rattle.word.specs.Result.{Result, ok, refused}
-use Rattle.std.specs.Prelude.{Ok, Err}
-use Rattle.refusal.specs.declared.Refusal.TheVariants.{Untraceable as Failed, ShortList}
-use Rattle.trace.specs.Inner.Emit.{Answer, Raw, raw_of, Into, into, emit_all, emitting, told}
-use Rattle.trace.specs.declared.Sink.TheVariants.{Check, List as ToList}
-use Rattle.trace.proofs.Emits.{ok-inj, told-traced, told-untraceable}
-use Rattle.traced.proofs.ListLaws.{checked-short, checked-fits, listed}
-use Rattle.frame.specs.Listing.{roots_listing, Frames}
 
 -- what a trace that succeeds or fails says of the words
 from-ok : {P : Type 0} (k : Into) (s t : Raw) (o : Option (List ℕ)) → ok t ≡ emitting k s o → ((ws : List ℕ) → o ≡ some ws → t ≡ emit_all k s ws → P) → P

@@ -11,7 +11,8 @@ use native.Mathlib.Omega.{arith}
 use Rattle.std.specs.Prelude.{if◌then◌else◌}
 use Rattle.ty.specs.Types.{Table}
 use Rattle.trace.specs.Places.{both, value_handles}
-use Rattle.frame.specs.Frame.{Entry, entry, entries_of, first_word, entry_roots, entries_roots, frame_roots, listed, addresses_in, entry_words, entries_words}
+use Rattle.frame.specs.Frame.{Entry, entry, entries_of, first_word, entry_roots, entries_roots, frame_roots, listed, addresses_in}
+use Rattle.frame.specs.Inner.Words.{entry_words, entries_words}
 
 -- none is not some
 nothing-some : {P : Type 0} (hs : List ℕ) → ◌≡◌ {A = Option (List ℕ)} none (some hs) → P

@@ -1,5 +1,5 @@
 -- The handles and the addresses of a frame's memory by its map (01, "Frame map and joined collection"; slot_roots of heap.rs).
-use Rattle.std.specs.Prelude.{ℕ, ◌%◌, List, [], ◌∷◌, ◌++◌, length, drop, leb, eqb, if◌then◌else◌}
+use Rattle.std.specs.Prelude.{ℕ, ◌%◌, List, [], ◌∷◌, length, drop, leb, eqb, if◌then◌else◌}
 use Rattle.std.proofs.Math.Option.{Option, none, some}
 use Rattle.ty.specs.Types.{Table}
 use Rattle.trace.specs.Places.{both, handle_at, value_handles}
@@ -50,12 +50,3 @@ listed (some words) = words
 
 abbrev pub addresses_in : Table → (map memory : List ℕ) → List ℕ
 addresses_in T map m = listed (frame_addresses T map m)
-
--- ---- the addresses without a test of the entries, as an inner function goes through them: where the handles can be traced, the frame's (proofs/Words)
-
-unfoldable pub entry_words : List ℕ → Entry → List ℕ
-entry_words m (entry off kind t) = if eqb kind 1 then first_word (drop off m) else []
-
-unfoldable pub entries_words : List ℕ → List Entry → List ℕ
-entries_words m [] = []
-entries_words m (e ∷ es) = entry_words m e ++ entries_words m es

@@ -1,3 +1,4 @@
 -- The definitions that the contracts cite.
 pub mod Frame
 pub mod Listing
+pub mod Inner

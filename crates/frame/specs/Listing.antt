@@ -1,10 +1,8 @@
 -- What a call that lists a frame's handles and addresses answers and writes: 13 before 7, and after a refusal both lists are as they were.
-use Rattle.std.specs.Prelude.{ℕ, ◌≡◌, List, length, leb, if◌then◌else◌}
+use Rattle.std.specs.Prelude.{ℕ, List, length, leb, if◌then◌else◌}
 use Rattle.std.proofs.Math.Option.{Option, none, some}
 use Rattle.word.specs.Put.{put}
 use Rattle.word.specs.Result.{Result, ok, refused}
-use Rattle.refusal.specs.Told.{Reply}
-use Rattle.refusal.specs.Told.{told, answered}
 
 -- handles and addresses
 pub record Roots : Type 0 where
@@ -28,9 +26,3 @@ handles_to out (refused n) = out
 abbrev pub addresses_to : List ℕ → Result Roots → List ℕ
 addresses_to out (ok r) = put out 0 r.addresses (length r.addresses)
 addresses_to out (refused n) = out
-
--- the answer, how many of each were written, and the lists after a call that gives these roots or a refusal
-pub record Frames (call : Result Roots) (r : Reply) (hs ds hs' ds' : List ℕ) : Type 0 where
-  pub answer : told r ≡ answered (λ c. length c.handles) (λ c. length c.addresses) call
-  pub handles : hs' ≡ handles_to hs call
-  pub addresses : ds' ≡ addresses_to ds call

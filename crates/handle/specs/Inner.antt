@@ -1,2 +1,3 @@
 -- What only the contracts of inner functions cite.
 pub mod Columns
+pub mod Told

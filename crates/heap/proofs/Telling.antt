@@ -6,7 +6,7 @@ use Rattle.refusal.specs.declared.Refusal.{Refusal}
 use Rattle.std.specs.Prelude.{Ok, Err}
 use Rattle.heap.specs.Lent.{Lent}
 use Rattle.heap.specs.Calls.{Changed}
-use Rattle.heap.specs.Done.{Does, Tells}
+use Rattle.heap.specs.Inner.Tells.{Does, Tells}
 
 module _ {A : Type 0} (f g : A → ℕ) {l l' : Lent} {call : Changed A} where
   pub tells_is : {a : A} → Does l l' (ok a) call → Tells f g l l' (Ok ((f a), (g a))) call

@@ -2,13 +2,15 @@
 use Rattle.std.proofs.Common.{◌≡◌, ℕ, ◌+◌, ◌%◌, ◌<◌, ◌≤◌, Bool, true, not, ◌&&◌, ◌||◌, eqb, ltb, leb, List, [], ◌∷◌, ◌++◌, length, get_or, sym, refl, ap, ◌∙◌, ⊎_elim, arith, ltb-true, le-ltb, lt-ltb, eq-eqb, ne_eqb, eqb-true, le-leb, leb-true}
 use native.Mathlib.Decide.{dec_lt, ℕ_discrete}
 use lib.ListN.{get_or-eq_default}
-use Rattle.word.specs.Lists.{all, all_below, same_list}
+use Rattle.word.specs.Lists.{all, all_below}
+use Rattle.word.specs.Same.{same_list}
 use Rattle.word.proofs.Bools.{and_both, both-and, or_cases, or_left, or_right}
 use Rattle.word.proofs.ListLaws.{all-at, at_all, below_at, at-below, same-tested, same_test}
 use Rattle.heap.specs.Packing.{flat}
 use Rattle.heap.specs.State.{Slot, State, no_slot, slot_at, data_of, live, last_generation, worn, bit, times}
 use Rattle.heap.specs.Lent.{Lent, columns, stored, view, slot_count, pool_size}
-use Rattle.heap.specs.WellFormed.{sound_slot, places, partitioned, retired_rightly, sound_seals, sound_reclaim, sound, fits, same_header, same_lent, well_formed}
+use Rattle.heap.specs.WellFormed.{sound_slot, places, partitioned, retired_rightly, sound_seals, sound_reclaim, sound, fits, well_formed}
+use Rattle.heap.specs.Same.{same_header, same_lent}
 use Rattle.heap.specs.declared.Heap.{Heap}
 use Rattle.heap.proofs.Sound.{SlotSound, Sound, WellFormed, live_bit}
 use Rattle.heap.proofs.Counting.{times-append, times-member}

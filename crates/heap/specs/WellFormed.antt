@@ -1,10 +1,10 @@
 -- When a heap is well formed (01, "Well formed" and "Added"; request [7]): tests that other definitions branch on.
 use Rattle.std.specs.Prelude.{ℕ, suc, ◌+◌, ◌%◌, Bool, true, not, ◌&&◌, ◌||◌, ltb, List, [], ◌∷◌, ◌++◌, length, ◌==◌, nat_eq, nat_le, nat_lt}
-use Rattle.word.specs.Lists.{all, all_below, same_list}
+use Rattle.word.specs.Lists.{all, all_below}
 use Rattle.handle.specs.Handle.{tag_of, index_of, generation_of}
 use Rattle.heap.specs.State.{Slot, State, slot_at, live, last_generation, worn, data_size, bit, times}
 use Rattle.heap.specs.Lent.{Lent, stored, view, slot_count, pool_size}
-use Rattle.heap.specs.declared.Heap.{Heap}
+use Rattle.heap.specs.Same.{same_lent}
 
 -- kinds 0 to 3; generations from 1 to the last; kinds 2 and 3 keep type 0; a dead slot has no data, and type, start and writes 0
 unfoldable pub sound_slot : Slot → Bool
@@ -47,23 +47,6 @@ sound h =
 unfoldable pub fits : (S P : ℕ) → State → Bool
 fits S P h =
     nat_le 1 S && nat_le S 16777216 && nat_le P 1073741824 && nat_le (length h.slots) S && nat_le (data_size h.slots) P
-
--- equal headers, equal lent memory
-unfoldable pub same_header : Heap → Heap → Bool
-same_header a b =
-    (a.tag == b.tag) && a.since_gc == b.since_gc && a.reclaim_at == b.reclaim_at
-    && a.live_bytes == b.live_bytes && a.epoch == b.epoch && same_list a.log b.log
-    && a.slots == b.slots && a.free == b.free && a.quarantine == b.quarantine
-    && a.retired == b.retired && a.sealed == b.sealed
-
-unfoldable pub same_lent : Lent → Lent → Bool
-same_lent a b =
-    same_header a.header b.header && a.count == b.count
-    && same_list a.generation b.generation && same_list a.kind b.kind && same_list a.type b.type
-    && same_list a.start b.start && same_list a.end b.end && same_list a.writes b.writes
-    && same_list a.pool b.pool
-    && same_list a.free b.free && same_list a.quarantine b.quarantine && same_list a.sealed b.sealed
-    && same_list a.retired b.retired && same_list a.over b.over
 
 -- lent memory in which a sound heap lies that fits there
 unfoldable pub well_formed : Lent → Bool

@@ -1,7 +1,7 @@
 // What a heap is asked.
 ghost use Rattle.std.specs.Prelude.{◌≡◌, ◌+◌, ◌-◌, ◌<◌, length, nat_le, true};
 ghost use Rattle.refusal.specs.Told.{told, answered};
-ghost use Rattle.handle.specs.Handle.{told as found};
+ghost use Rattle.handle.specs.Inner.Told.{told as found};
 ghost use Rattle.heap.specs.State.{slot_at, live as alive, data_size};
 ghost use Rattle.heap.specs.Calls.{gc_due, reclaim_due, has_quarantine, is_plain};
 ghost use Rattle.heap.specs.Calls.{live_count, Place, place_at, Kind, kind_at, Stamp, stamp_at, resolve as resolved};

@@ -11,7 +11,7 @@ ghost use Rattle.heap.specs.Packing.{start_of};
 ghost use Rattle.heap.specs.Calls.{new as new_heap, gc_due, reclaim_due, has_quarantine, is_plain};
 ghost use Rattle.heap.specs.Inner.Asked.{OfHeader};
 ghost use Rattle.heap.specs.Lent.{header_of, lent};
-ghost use Rattle.heap.specs.Header.{set_charged, set_changed, set_since, set_reclaim, set_live, set_slots, set_free, set_quarantine, set_retired, set_sealed};
+ghost use Rattle.heap.specs.Inner.Header.{set_charged, set_changed, set_since, set_reclaim, set_live, set_slots, set_free, set_quarantine, set_retired, set_sealed};
 ghost use Rattle.heap.specs.Sizes.{sizes_fit};
 ghost use Rattle.heap.specs.Inner.Columns.{CanSplice, Spliced, CanPlace, PlacedIn};
 

@@ -11,7 +11,7 @@ use borrow.Author.Tests.{eq-eqb, ne_eqb, le-ltb}
 use Rattle.word.specs.Ones.{keep, passing}
 use Rattle.heap.specs.State.{bit, times}
 use Rattle.heap.specs.Calls.{member}
-use Rattle.heap_calls.specs.Pins.{marked_slots}
+use Rattle.heap_calls.specs.Inner.Marks.{marked_slots}
 
 -- x is passed once if it lies in the range and passes, else never
 

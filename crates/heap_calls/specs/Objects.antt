@@ -1,14 +1,8 @@
 -- What the calls that place and remove objects answer and leave in lent memory.
-use Rattle.std.specs.Prelude.{◌≡◌, List, ℕ, length}
+use Rattle.std.specs.Prelude.{List, ℕ, length}
 use Rattle.word.specs.Put.{put}
 use Rattle.word.specs.Result.{Result, ok, refused}
-use Rattle.refusal.specs.Told.{told, answered}
-use Rattle.refusal.specs.Told.{Reply}
-use Rattle.heap.specs.Lent.{Lent, view}
-use Rattle.heap.specs.Calls.{Object, take_into}
-use Rattle.heap.specs.Done.{Leaves}
-use Rattle.heap.specs.Inner.Loans.{lies, SameLoans}
-use Rattle.heap.specs.declared.view_mut.ViewMut.{ViewMut}
+use Rattle.heap.specs.Calls.{Object}
 
 -- the numbers of an object whose bytes are in the output: its length and its start
 abbrev pub size_of : Object → ℕ
@@ -21,14 +15,3 @@ start_of o = o.start
 abbrev pub handed_out : List ℕ → Result Object → List ℕ
 handed_out out (ok o) = put out 0 o.bytes (length o.bytes)
 handed_out out (refused n) = out
-
--- the object's bytes are in the output, the reply is its length and start
-pub record TakeDoes (l l' : Lent) (reply : Reply) (x : ℕ) (out out' : List ℕ) : Type 0 where
-  pub leaves : Leaves l l' (take_into (length out) (view l) x).heap
-  pub says : told reply ≡ answered size_of start_of (take_into (length out) (view l) x).answer
-  pub wrote : out' ≡ handed_out out (take_into (length out) (view l) x).answer
-
--- as TakeDoes, in the memory that is lent
-pub record Takes (l l' : ViewMut) (reply : Reply) (x : ℕ) (out out' : List ℕ) : Type 0 where
-  pub loans : SameLoans l l'
-  pub does : TakeDoes (lies l) (lies l') reply x out out'

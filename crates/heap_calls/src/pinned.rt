@@ -1,7 +1,8 @@
 // The slots that stay in quarantine when it is recycled: those that a host holds on to, or those that a collection marked.
 ghost use Rattle.std.specs.Prelude.{◌≡◌, true, ℕ, List};
 ghost use Rattle.heap.specs.Calls.{member};
-ghost use Rattle.heap_calls.specs.Pins.{rising, marked_slots};
+ghost use Rattle.heap_calls.specs.Pins.{rising};
+ghost use Rattle.heap_calls.specs.Inner.Marks.{marked_slots};
 
 // What says of each slot whether it is pinned.
 pub trait Pinned: Copy {

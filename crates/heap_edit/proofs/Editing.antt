@@ -8,9 +8,9 @@ use Rattle.refusal.specs.declared.Refusal.{Refusal}
 use Rattle.heap.specs.State.{Slot, slot_at, data_size}
 use Rattle.heap.specs.Lent.{Lent, lent, stored, view, slot_count, pool_size}
 use Rattle.heap.specs.WellFormed.{well_formed}
-use Rattle.heap.specs.Header.{set_changed}
+use Rattle.heap.specs.Inner.Header.{set_changed}
 use Rattle.heap.specs.Inner.Columns.{CanSplice, CanPlace, PlacedIn, put_slot}
-use Rattle.heap.specs.Done.{Does, Tells}
+use Rattle.heap.specs.Inner.Tells.{Does, Tells}
 use Rattle.heap.specs.Calls.{Changed, refuse, changed, rewritten, resolve, edit}
 use Rattle.heap.specs.declared.Heap.{Heap}
 use Rattle.heap.proofs.Keeping.{live_inside, leaves}

@@ -10,8 +10,8 @@ use Rattle.handle.specs.Handle.{packed}
 use Rattle.heap.specs.State.{Slot, no_slot, slot_at, live, last_generation}
 use Rattle.heap.specs.Lent.{Lent, lent, stored, view, slot_count, pool_size}
 use Rattle.heap.specs.WellFormed.{well_formed}
-use Rattle.heap.specs.Header.{set_charged}
-use Rattle.heap.specs.Done.{Does, Tells}
+use Rattle.heap.specs.Inner.Header.{set_charged}
+use Rattle.heap.specs.Inner.Tells.{Does, Tells}
 use Rattle.heap.specs.Calls.{Changed, refuse, charged, step, reissued, reissue}
 use Rattle.heap.specs.declared.Heap.{Heap}
 use Rattle.heap.proofs.Keeping.{leaves}

@@ -7,7 +7,7 @@ use Rattle.heap.specs.Packing.{pad}
 use Rattle.heap.specs.State.{State}
 use Rattle.heap.specs.Lent.{Lent, columns, cut, lent, stored, view, header_of, slot_count, pool_size}
 use Rattle.heap.specs.WellFormed.{well_formed}
-use Rattle.heap.specs.Header.{set_sealed}
+use Rattle.heap.specs.Inner.Header.{set_sealed}
 use Rattle.heap.specs.Done.{Leaves}
 use Rattle.heap.specs.Calls.{seal, live_handles}
 use Rattle.heap.specs.declared.Heap.{Heap}

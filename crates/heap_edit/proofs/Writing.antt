@@ -13,7 +13,7 @@ use Rattle.heap.specs.Packing.{start_of}
 use Rattle.heap.specs.State.{State, slot_at, live, data_size}
 use Rattle.heap.specs.Lent.{Lent, lent, columns, stored, view, slot_count, pool_size}
 use Rattle.heap.specs.WellFormed.{well_formed}
-use Rattle.heap.specs.Done.{Does, Tells}
+use Rattle.heap.specs.Inner.Tells.{Does, Tells}
 use Rattle.heap.specs.Calls.{Changed, refuse, with_slot, rewritten, write}
 use Rattle.heap.specs.declared.Heap.{Heap}
 use Rattle.heap.proofs.Keeping.{live_inside, leaves}

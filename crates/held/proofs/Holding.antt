@@ -11,9 +11,10 @@ use Rattle.heap.specs.State.{State}
 use Rattle.heap.specs.Lent.{Lent, columns, view}
 use Rattle.heap.specs.WellFormed.{well_formed}
 use Rattle.heap.specs.Calls.{Changed, take_into}
-use Rattle.heap.specs.Done.{Tells}
+use Rattle.heap.specs.Inner.Tells.{Tells}
 use Rattle.heap.specs.declared.Heap.{Heap}
-use Rattle.heap_calls.specs.Objects.{size_of, start_of, handed_out, TakeDoes}
+use Rattle.heap_calls.specs.Objects.{size_of, start_of, handed_out}
+use Rattle.heap_calls.specs.Inner.Takes.{TakeDoes}
 use Rattle.held.specs.Held.{Held}
 
 -- the same memory with this header

@@ -9,12 +9,13 @@ use Rattle.refusal.specs.declared.Answer.{Answer}
 use Rattle.refusal.specs.declared.Refusal.TheVariants.{BrokenHeap, Scratch}
 use Rattle.heap.specs.Lent.{Lent, view, slot_count}
 use Rattle.heap.specs.WellFormed.{well_formed}
-use Rattle.heap.specs.Done.{Tells}
+use Rattle.heap.specs.Inner.Tells.{Tells}
 use Rattle.heap.specs.declared.Heap.{Heap}
 use Rattle.roots.specs.Calls.{function, need}
 use Rattle.collect.specs.Collect.{collecting}
 use Rattle.collect.specs.Inner.Safepoint.{at_safepoint}
-use Rattle.door.specs.HeapCalls.{Test, test, Entry, ready, admitted, enough, zeros, Entered, outcome, outcome_of}
+use Rattle.door.specs.HeapCalls.{Test, test, Entry, ready, admitted, enough, zeros, outcome, outcome_of}
+use Rattle.door.specs.Inner.Entered.{Entered}
 use Rattle.door.proofs.Entering.{fails, passes}
 use Rattle.collect_door.specs.Calls.{Given, table_in, given_tests, tests, collect_call, Asked, table, frame, pinning, roomy, input_tests, joined_call}
 use Rattle.collect_door.specs.Demand.{RightlyCollected, Demand}

@@ -3,7 +3,8 @@ ghost use Rattle.std.specs.Prelude.{◌≡◌, true, [], ◌∷◌, ◌/◌, len
 ghost use Rattle.heap.specs.WellFormed.{well_formed};
 ghost use Rattle.roots.specs.Calls.{need};
 ghost use Rattle.roots.specs.Inner.Plans.{lent as code_lent};
-ghost use Rattle.door.specs.HeapCalls.{Entered, outcome_of};
+ghost use Rattle.door.specs.HeapCalls.{outcome_of};
+ghost use Rattle.door.specs.Inner.Entered.{Entered};
 ghost use Rattle.collect_door.specs.Calls.{input_tests, joined_call};
 ghost use Rattle.collect_door.specs.Demand.{Demand};
 ghost use Rattle.held.specs.Held.{in_place};

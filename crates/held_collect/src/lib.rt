@@ -4,7 +4,8 @@
 
 ghost use Rattle.std.specs.Prelude.{◌≡◌, true, [], ◌∷◌, ◌/◌, length};
 ghost use Rattle.heap.specs.WellFormed.{well_formed};
-ghost use Rattle.door.specs.HeapCalls.{Entered, outcome};
+ghost use Rattle.door.specs.HeapCalls.{outcome};
+ghost use Rattle.door.specs.Inner.Entered.{Entered};
 ghost use Rattle.collect_door.specs.Calls.{given_tests, collect_call};
 ghost use Rattle.collect_door.specs.Demand.{RightlyCollected};
 ghost use Rattle.held.specs.Held.{in_place};

@@ -1,9 +1,5 @@
 -- From what the inner calls ensure to the calls on a heap that is known. Assumes nothing.
 use Prim.Native.Nat.{ℕ}
-use mathlib.Core.Path.{◌≡◌, refl, sym, ap, subst, ◌∙◌}
-use mathlib.Core.Bool.{Bool, true, false}
-use mathlib.Core.List.{List, []}
-use lib.ListN.{length}
 use Rattle.std.specs.Prelude.{Err}
 use Rattle.word.specs.Result.{ok}
 use Rattle.refusal.specs.Told.{told, answered, here, nothing, Reply}
@@ -17,13 +13,19 @@ use Rattle.traced.specs.Inner.Lists.{Lists}
 use Rattle.heap.specs.Lent.{Lent, view}
 use Rattle.heap.specs.Inner.Seen.{seen, state}
 use Rattle.heap.specs.declared.view.View.{View}
-use Rattle.door.specs.HeapCalls.{admitted, ready, Entered, asked_of}
+use Rattle.door.specs.HeapCalls.{admitted, ready, asked_of}
 use Rattle.door.proofs.Entering.{fails, passes, ask-refused, ask-ready, whether-not, whether-ready}
 use Rattle.pages.specs.Form.{written}
 use Rattle.pages.specs.Page.{page_text}
-use Rattle.pages.specs.Answer.{PageWritten, text_answer, text_out}
+use Rattle.pages.specs.Answer.{text_answer, text_out}
 use Rattle.slot_door.specs.SlotHandles.{slot_handles}
 use Rattle.held_reads.specs.Slot.{table_tests, held_slot_call, slot_out}
+use Rattle.door.specs.Inner.Entered.{Entered}
+use Rattle.pages.specs.Inner.PageWritten.{PageWritten}
+use mathlib.Core.Path.{◌≡◌, refl, sym, ap, subst, ◌∙◌}
+use mathlib.Core.Bool.{Bool, true, false}
+use mathlib.Core.List.{List, []}
+use lib.ListN.{length}
 
 -- ---- slot_handles
 

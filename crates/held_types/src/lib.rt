@@ -7,10 +7,11 @@ ghost use Rattle.word.specs.Result.{ok};
 ghost use Rattle.refusal.specs.Told.{answered, here, nothing};
 ghost use Rattle.ty.specs.View.{types_of, table_of};
 ghost use Rattle.ty.specs.Walks.{has_handles};
-ghost use Rattle.layout.specs.Offsets.{told, offsets_of, layout_call, written_by};
+ghost use Rattle.layout.specs.Offsets.{offsets_of, layout_call, written_by};
 ghost use Rattle.trace.specs.Places.{object_handles, value_handles};
 ghost use Rattle.traced.specs.Listing.{listing, written_to};
 ghost use Rattle.held_types.specs.Laid.{laid};
+ghost use Rattle.layout.specs.Inner.Told.{told};
 
 use refusal::{Answer, Refusal};
 use ty::Table;

@@ -20,7 +20,8 @@ use Rattle.reach.specs.Reach.{Graph, Starts, Reached, ◌∈◌}
 use Rattle.reach.specs.Marking.{State as Marks, marking}
 use Rattle.collection.specs.Swept.{goes}
 use Rattle.collection.specs.Shown.{shown}
-use Rattle.collection.specs.Collected.{graph, swept_by, collected}
+use Rattle.collection.specs.Collected.{graph}
+use Rattle.collection.specs.Collecting.{swept_by, collected}
 use Rattle.collection.specs.Demand.{Survived}
 use Rattle.collection.proofs.Dropping.{swept_slot, goes-live}
 use Rattle.collection.proofs.SweptLaws.{swept-slot, swept-count, swept-tag}

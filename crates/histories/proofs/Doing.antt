@@ -27,7 +27,9 @@ use Rattle.std.specs.Prelude.{Ok}
 use Rattle.object_door.specs.ObjectCalls.{allocating, recycling, take_call}
 use Rattle.heap_door.specs.Sealing.{sealing}
 use Rattle.collect_door.specs.Calls.{table_in, tests, Asked, table, frame, pinning, joined_tests, joining}
-use Rattle.script.specs.Script.{Call as LineCall, alloc as alloc_line, take as take_line, seal as seal_line, recycle as recycle_line, call_of, lines, silent, quiet, doing as line_doing, line_does, unless, and_then, run_lines, run_script}
+use Rattle.script.specs.Script.{lines, silent, quiet, doing as line_doing, line_does, unless, and_then, run_lines, run_script}
+use Rattle.script.specs.Calls.{Call as LineCall, alloc as alloc_line, take as take_line, seal as seal_line, recycle as recycle_line}
+use Rattle.script.specs.Reading.{call_of}
 use Rattle.run_door.specs.Run.{run_tests}
 use Rattle.histories.specs.Steps.{Told, Step, alloc, reissue, edit, write, take, free, recycle, seal, collect, ask, Answer, nothing as silence, handle, slot, object, told, saying, answering, silently, doing}
 use Rattle.histories.specs.History.{after}

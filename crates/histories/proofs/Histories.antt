@@ -22,8 +22,10 @@ use Rattle.reach.specs.Marking.{State as Marks, marking}
 use Rattle.reach.proofs.Grown.{∈-cases}
 use Rattle.collection.specs.Shown.{shown}
 use Rattle.collection.specs.Swept.{swept}
-use Rattle.collection.specs.Demand.{Survived, Collects}
-use Rattle.collection.specs.Collected.{graph, starts, swept_by, collected}
+use Rattle.collection.specs.Demand.{Survived}
+use Rattle.collection.specs.Inner.Collects.{Collects}
+use Rattle.collection.specs.Collected.{graph, starts}
+use Rattle.collection.specs.Collecting.{swept_by, collected}
 use Rattle.collection.proofs.Demand.{collect-demand, collected-sound}
 use Rattle.histories.specs.Steps.{Step, alloc, reissue, edit, write, take, free, recycle, seal, collect, ask, Answer, nothing, handle, slot, object, told, silently, doing}
 use Rattle.histories.specs.History.{after, handed, issued, Distinct, Resolves, books, if_ok, total, Drops, Lost}

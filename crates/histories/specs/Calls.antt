@@ -13,7 +13,9 @@ use Rattle.door.specs.HeapCalls.{Test, admitted, whether, heap_tests, Outcome, o
 use Rattle.object_door.specs.ObjectCalls.{allocating, recycling, take_call}
 use Rattle.heap_door.specs.Sealing.{sealing}
 use Rattle.collect_door.specs.Calls.{Given, table_in, tests, collect_call, Asked, table, frame, pinning, joined_tests, joined_call}
-use Rattle.script.specs.Script.{Call as LineCall, alloc as alloc_line, take as take_line, seal as seal_line, recycle as recycle_line, call_of, lines}
+use Rattle.script.specs.Script.{lines}
+use Rattle.script.specs.Calls.{Call as LineCall, alloc as alloc_line, take as take_line, seal as seal_line, recycle as recycle_line}
+use Rattle.script.specs.Reading.{call_of}
 use Rattle.run_door.specs.Run.{run_tests, run_call}
 use Rattle.histories.specs.Steps.{Told, Step, alloc as alloc_step, reissue as reissue_step, edit as edit_step, write as write_step, take as take_step, free as free_step, recycle as recycle_step, seal as seal_step, collect as collect_step, ask, Answer, doing}
 

@@ -6,7 +6,8 @@ use Rattle.ty.specs.Types.{Table}
 use Rattle.heap.specs.State.{State}
 use Rattle.heap.specs.Calls.{Changed, Object, done, edit as edited, write as written, reissue as reissued, take_into, free as freed, seal as sealed}
 use Rattle.object_door.specs.ObjectCalls.{allocating, recycling}
-use Rattle.collection.specs.Collected.{graph, starts, collected}
+use Rattle.collection.specs.Collected.{graph, starts}
+use Rattle.collection.specs.Collecting.{collected}
 use Rattle.collection.specs.Shown.{shown}
 
 -- the two numbers that a question answers

@@ -15,7 +15,8 @@ use Rattle.ty.specs.View.{fields_from, entry_at, lent}
 use Rattle.ty.specs.declared.Entry.TheVariants.{Record}
 use Rattle.ty.specs.declared.Table.{Table as Lent}
 use Rattle.layout.specs.Layout.{Lay, placed, layout_at, layout_of}
-use Rattle.layout.specs.Offsets.{offsets_of, told, listed_in, layout_call}
+use Rattle.layout.specs.Offsets.{offsets_of, listed_in, layout_call}
+use Rattle.layout.specs.Inner.Told.{told}
 use Rattle.layout.specs.Inner.Lent.{record_in, offsets_in, FewRow, FieldsListed}
 use Rattle.layout.specs.declared.Layout.{Layout}
 use Rattle.layout.proofs.LayLaws.{in-record}

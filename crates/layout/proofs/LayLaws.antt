@@ -125,7 +125,7 @@ module _ (T : Lent) where
 
   -- elem_bytes
   pub elem-missing : (t : ℕ) → entry_at T.types.now (length T.fields.now / 2) t ≡ None → None ≡ elem_size (type_at (lent T).types t)
-  unfolding elem_size read_ty
+  unfolding elem_size scalar_size read_ty
   elem-missing t k = rw (type-at, k) refl
 
   pub elem_read : (t : ℕ) (e : Entry) → entry_at T.types.now (length T.fields.now / 2) t ≡ Some e → elem_size (bare e) ≡ elem_size (type_at (lent T).types t)
@@ -134,7 +134,7 @@ module _ (T : Lent) where
 
   -- layout_in
   pub in_missing : (left t : ℕ) (d : List ℕ) → entry_at T.types.now (length T.fields.now / 2) t ≡ None → Err Malformed ≡ layout_at (lent T) (suc left) t d
-  unfolding layout_at layout_by read_ty
+  unfolding layout_at layout_by scalar_size read_ty
   in_missing left t d h = rw (type-at, h) refl
 
   module _ (left t : ℕ) (d : List ℕ) (e : Entry) (ee : entry_at T.types.now (length T.fields.now / 2) t ≡ Some e) where

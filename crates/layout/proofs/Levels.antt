@@ -10,7 +10,7 @@ use lib.Dec.{eqb}
 use Rattle.std.specs.Prelude.{Result, Some, None, Ok, Err, unwrap_or, if◌then◌else◌}
 use Rattle.ty.specs.Types.{Ty, Ty.missing, Ty.int, Ty.physical, Ty.enum, Ty.real, Ty.array, Ty.fields, Ty.access, Ty.file, Ty.protected, Field, Field.field, Const, Const.plain, Const.other, Table, type_at, const_at, none}
 use Rattle.ty.specs.Words.{on_word, Word}
-use Rattle.ty.specs.Scalars.{elem_size, logic_leaf}
+use Rattle.ty.specs.Scalars.{scalar_size, elem_size, logic_leaf}
 use Rattle.layout.specs.Layout.{Lay, on_ok, on_bytes, dims_of, under, used_by, placed, end_of, array_of, record_of, array_laid, layout_by, layout_at}
 use Rattle.refusal.specs.declared.Refusal.{Refusal}
 use Rattle.refusal.specs.declared.Refusal.TheVariants.{Malformed, TooLarge}
@@ -65,7 +65,7 @@ module _ (T : Table) (f g : ℕ → List ℕ → Lay) (h : (t : ℕ) (d : List �
       on-word (placed off l.align l.size) _ _ (λ o. record-keeps fs d o (max al l.align) (used + used_by c l.used)))
 
   by-keeps : (t : ℕ) (d : List ℕ) (y : Ty) → Keeps (layout_by T f t d y) (layout_by T g t d y)
-  unfolding layout_by
+  unfolding layout_by scalar_size
   by-keeps t d missing = λ n. refl
   by-keeps t d (int lo hi) = refl
   by-keeps t d physical = refl

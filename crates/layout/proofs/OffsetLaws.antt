@@ -20,7 +20,8 @@ use Rattle.ty.specs.declared.Table.{Table as Lent}
 use Rattle.ty.proofs.Lookup.{type-at}
 use Rattle.ty.proofs.WalkLaws.{fields-first, fields-last, fields-next}
 use Rattle.layout.specs.Layout.{Lay, under, used_by, layout_at, layout_of}
-use Rattle.layout.specs.Offsets.{if_laid, offsets_from, offsets_of, fields_of, told, layout_call}
+use Rattle.layout.specs.Offsets.{if_laid, offsets_from, offsets_of, fields_of, layout_call}
+use Rattle.layout.specs.Inner.Told.{told}
 use Rattle.layout.specs.declared.Layout.{Layout}
 use Rattle.word.proofs.ListLaws.{rest}
 

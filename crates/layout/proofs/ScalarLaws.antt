@@ -19,7 +19,8 @@ use Rattle.ty.specs.declared.Table.{Table as Lent}
 use Rattle.ty.proofs.Laws.{word-is}
 use Rattle.ty.proofs.Ranges.{record-within}
 use Rattle.layout.specs.Layout.{placed, record_of, end_of, scalar_layout, layout_at, layout_of}
-use Rattle.layout.specs.Offsets.{offsets_of, told, layout_call, written_by}
+use Rattle.layout.specs.Offsets.{offsets_of, layout_call, written_by}
+use Rattle.layout.specs.Inner.Told.{told}
 use Rattle.layout.specs.Inner.Lent.{scalar_part, record_in, ScalarFields, ScalarRow, ScalarRecord, ScalarsLaid}
 use Rattle.layout.specs.declared.Layout.{Layout}
 use Rattle.layout.proofs.LayLaws.{below-scalar, in-record, record-first, record-last, record-more}

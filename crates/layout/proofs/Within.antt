@@ -90,7 +90,7 @@ module _ (T : Table) (next : ℕ → List ℕ → Lay) (h : (t : ℕ) (d : List 
       record-within fs d o (max al l.align) (used + used_by c l.used) (omega (arith, under-within t c (drop used d) l el, length-drop used d))))
 
   by-within : (t : ℕ) (d : List ℕ) (y : Ty) → Within (length d) (layout_by T next t d y)
-  unfolding layout_by
+  unfolding layout_by scalar_size
   by-within t d missing = tt
   by-within t d (int lo hi) = omega arith
   by-within t d physical = omega arith

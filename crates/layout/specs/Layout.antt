@@ -3,7 +3,7 @@ use Rattle.std.specs.Prelude.{ℕ, zero, suc, ◌+◌, ◌-◌, ◌*◌, ◌/◌
 use Rattle.word.specs.Le.{le}
 use Rattle.refusal.specs.declared.Refusal.{Refusal}
 use Rattle.refusal.specs.declared.Refusal.TheVariants.{Malformed, TooLarge}
-use Rattle.ty.specs.Types.{Ty, Ty.missing, Ty.int, Ty.physical, Ty.enum, Ty.real, Ty.array, Ty.fields, Ty.access, Ty.file, Ty.protected, Field, Field.field, Const, Const.plain, Const.other, Table, type_at, const_at, none}
+use Rattle.ty.specs.Types.{Ty, Ty.array, Ty.fields, Field, Field.field, Const, Const.plain, Const.other, Table, type_at, const_at, none}
 use Rattle.ty.specs.Words.{Word, word_of, on_word, rank, round_up}
 use Rattle.ty.specs.Scalars.{scalar_size, elem_size, logic_leaf}
 use Rattle.layout.specs.declared.Layout.{Layout}
@@ -11,10 +11,6 @@ use Rattle.layout.specs.declared.Layout.{Layout}
 -- a layout, or why there is none
 abbrev pub Lay : Type 0
 Lay = Result Layout Refusal
-
--- a layout with how many offsets were written, or why there is none
-abbrev pub Answer : Type 0
-Answer = Result (Layout × ℕ) Refusal
 
 -- the positions of an array's dimensions, or why there are none
 abbrev pub Dims : Type 0
@@ -97,16 +93,9 @@ scalar_laid (Some n) = Ok (scalar_layout n)
 scalar_laid None = Err Malformed
 
 unfoldable pub layout_by : Table → (ℕ → List ℕ → Lay) → ℕ → List ℕ → Ty → Lay
-layout_by T next t d missing = Err Malformed
-layout_by T next t d (int lo hi) = Ok (scalar_layout 8)
-layout_by T next t d physical = Ok (scalar_layout 8)
-layout_by T next t d (enum n logic) = scalar_laid (scalar_size (enum n logic))
-layout_by T next t d real = Ok (scalar_layout 8)
 layout_by T next t d (array e c k) = array_of T next t e c k d
 layout_by T next t d (fields fs) = record_of T next fs d 0 1 0
-layout_by T next t d access = Ok (scalar_layout 8)
-layout_by T next t d file = Ok (scalar_layout 4)
-layout_by T next t d protected = Ok (scalar_layout 8)
+layout_by T next t d scalar = scalar_laid (scalar_size scalar)
 
 -- the layout of type t under the descriptor d, with so many levels left, itself among them
 unfoldable pub layout_at : Table → ℕ → ℕ → List ℕ → Lay

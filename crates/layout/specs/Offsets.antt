@@ -2,10 +2,10 @@
 use Rattle.std.specs.Prelude.{ℕ, ◌+◌, List, [], ◌∷◌, leb, length, drop, Ok, Err, if◌then◌else◌}
 use Rattle.word.specs.Put.{put}
 use Rattle.word.specs.Result.{Result, ok, refused}
-use Rattle.ty.specs.Types.{Ty, Ty.missing, Ty.int, Ty.physical, Ty.enum, Ty.real, Ty.array, Ty.fields, Ty.access, Ty.file, Ty.protected, Field, Field.field, Table, type_at}
+use Rattle.ty.specs.Types.{Ty, Ty.fields, Field, Field.field, Table, type_at}
 use Rattle.ty.specs.Words.{word_of, on_word, round_up}
 use Rattle.refusal.specs.Told.{number_of}
-use Rattle.layout.specs.Layout.{Lay, Answer, under, used_by, layout_at, layout_of}
+use Rattle.layout.specs.Layout.{Lay, under, used_by, layout_at, layout_of}
 use Rattle.layout.specs.declared.Layout.{Layout}
 
 abbrev pub if_laid : Lay → (Layout → List ℕ) → List ℕ
@@ -22,16 +22,8 @@ offsets_from T next (field t c ∷ fs) d off used =
 
 -- the fields of a type, none where it is no record
 abbrev pub fields_of : Ty → List Field
-fields_of missing = []
-fields_of (int lo hi) = []
-fields_of physical = []
-fields_of (enum n l) = []
-fields_of real = []
-fields_of (array e c k) = []
 fields_of (fields fs) = fs
-fields_of access = []
-fields_of file = []
-fields_of protected = []
+fields_of y = []
 
 unfoldable pub offsets_of : Table → ℕ → List ℕ → List ℕ
 offsets_of T t d = offsets_from T (layout_at T 64) (fields_of (type_at T.types t)) d 0 0
@@ -47,11 +39,6 @@ pub record Values : Type 0 where
 
 abbrev pub values : Layout → ℕ → Values
 values l k = record { size = l.size; align = l.align; stride = l.stride; count = l.count; used = l.used; offsets = k }
-
--- each answer's number and values
-abbrev pub told : Answer → Result Values
-told (Ok (l, k)) = ok (values l k)
-told (Err e) = refused (number_of e)
 
 -- a layout with k offsets asked of a list of so many places
 abbrev pub listed_in : Lay → ℕ → ℕ → Result Values

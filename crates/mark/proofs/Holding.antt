@@ -18,7 +18,8 @@ use Rattle.std.specs.Prelude.{Option as MaybeSlot, Some, None}
 use Rattle.addresses.proofs.Listing.{slots-append}
 use Rattle.std.specs.Simd.{first_chunks}
 use Rattle.word.proofs.ChunkLaws.{row-part}
-use Rattle.frame.specs.Frame.{Entry, entry, entries_of, first_word, entry_words, entries_words}
+use Rattle.frame.specs.Frame.{Entry, entry, entries_of, first_word}
+use Rattle.frame.specs.Inner.Words.{entry_words, entries_words}
 use Rattle.frame.proofs.FrameLaws.{entries_next}
 use Rattle.reach.specs.Marking.{State, visit, follow_all, pin_if, pin_all}
 use Rattle.mark.specs.Inner.Scratch.{state_of, Scratch, Holds}

@@ -13,7 +13,8 @@ use Rattle.word.specs.Run.{run}
 use Rattle.word.proofs.RunLaws.{run-get}
 use Rattle.handle.specs.Inner.Columns.{live_in}
 use Rattle.handle.proofs.ResolveLaws.{live-beyond, live-not, live-there}
-use Rattle.reach.specs.Marking.{State, Good, visit, pin_if}
+use Rattle.reach.specs.Marking.{State, visit, pin_if}
+use Rattle.reach.specs.Inner.Good.{Good}
 use Rattle.reach.proofs.Grown.{sum-set, sum-le, visit-grown, good-nothing}
 use Rattle.trace.specs.Inner.Emit.{over}
 use Rattle.mark.specs.Inner.Scratch.{low, high, state_of, Holds, Scratch, Noted}

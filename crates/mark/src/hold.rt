@@ -1,7 +1,8 @@
 // Pinned slots of a joined collection, by the pins that are given and by addresses. A pinned slot is marked and queued whether it holds an object or not: a dead slot
 // shows no handles, and its mark says to the recycling that it stays in quarantine. So no list of the pins is made.
 ghost use Rattle.addresses.specs.Listed.{slot_of, slots_of};
-ghost use Rattle.frame.specs.Frame.{entry, entries_of, first_word, entry_words, entries_words};
+ghost use Rattle.frame.specs.Frame.{entry, entries_of, first_word};
+ghost use Rattle.frame.specs.Inner.Words.{entry_words, entries_words};
 ghost use Rattle.reach.specs.Marking.{pin_if, pin_all};
 ghost use Rattle.mark.specs.Inner.Queues.{state, IsReady, Becomes};
 ghost use Rattle.mark.specs.Inner.Joining.{in_use};

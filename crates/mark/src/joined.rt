@@ -4,7 +4,8 @@ ghost use Rattle.std.specs.Prelude.{◌≡◌, ◌++◌, ◌+◌, ◌/◌, lengt
 ghost use Rattle.heap.specs.Inner.Seen.{state as heap_state};
 ghost use Rattle.ty.specs.View.{lent};
 ghost use Rattle.rows.specs.Inner.Row.{listed};
-ghost use Rattle.frame.specs.Frame.{entries_of, entries_words};
+ghost use Rattle.frame.specs.Frame.{entries_of};
+ghost use Rattle.frame.specs.Inner.Words.{entries_words};
 ghost use Rattle.addresses.specs.Listed.{slots_of};
 ghost use Rattle.mark.specs.Inner.Objects.{leads, held_of};
 ghost use Rattle.mark.specs.Inner.Scratch.{state_of, Scratch, Traces, seeded_from};

@@ -18,7 +18,8 @@ use Rattle.std.specs.declared.cmp.Ordering.TheVariants.{Less, Equal, Greater}
 use Rattle.std.specs.Ordering.{nat_cmp}
 use Rattle.std.proofs.lemmas.Map.Lookups.{exact_unsigned}
 use Rattle.ty.specs.Types.{Table}
-use Rattle.ty.specs.Walks.{desc_size, has_handles}
+use Rattle.ty.specs.Walks.{has_handles}
+use Rattle.ty.specs.DescSize.{desc_size}
 use Rattle.trace.specs.Places.{Places, only_if, places_at, handles_places, kind_places, handle_at, words_at, handles_of, shown_places}
 use Rattle.reach.specs.Reach.{◌∈◌}
 use Rattle.alike.specs.Same.{Object, Model, shown, Counted, OneTable}

@@ -17,10 +17,11 @@ use Rattle.heap.specs.Packing.{flat}
 use Rattle.heap.specs.Lent.{Lent, lent, stored, view}
 use Rattle.heap.specs.WellFormed.{partitioned, retired_rightly, sound_seals, sound_reclaim, sound, fits, well_formed}
 use Rattle.heap.specs.Calls.{new}
-use Rattle.heap.specs.Done.{Tells}
+use Rattle.heap.specs.Inner.Tells.{Tells}
 use Rattle.heap.specs.declared.Heap.{Heap}
 use Rattle.heap.proofs.Testing.{stored-formed}
-use Rattle.door.specs.HeapCalls.{test, admitted, enough, zeros, Entered, outcome}
+use Rattle.door.specs.HeapCalls.{test, admitted, enough, zeros, outcome}
+use Rattle.door.specs.Inner.Entered.{Entered}
 use Rattle.door.specs.HeapCalls.{Entry}
 use Rattle.door.specs.HeapCalls.{ready}
 use Rattle.door.proofs.Entering.{fails, passes, passed, call-refused, call-ready}

@@ -13,6 +13,7 @@ use Rattle.door.specs.HeapCalls.{Test, test, Outcome, enough, calling}
 abbrev pub no_header : Heap
 no_header = record { tag = 0; since_gc = 0; reclaim_at = 0; live_bytes = 0; epoch = 0; log = replicate 16 0; slots = 0; free = 0; quarantine = 0; retired = 0; sealed = 0 }
 
+-- scratch, then the sizes of what is lent
 abbrev pub new_tests : (marks work narrow wide pool : List ℕ) → List Test
 new_tests marks work narrow wide pool =
     test (enough marks work (lent no_header narrow wide pool)) Scratch ∷ test (sizes_fit (length narrow) (length wide) (length pool)) BrokenHeap ∷ []

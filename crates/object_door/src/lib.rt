@@ -6,10 +6,11 @@ ghost use Rattle.std.specs.Prelude.{◌≡◌, true, [], ◌∷◌, ◌/◌, len
 ghost use Rattle.refusal.specs.Told.{here, nothing};
 ghost use Rattle.heap.specs.Lent.{lent, view};
 ghost use Rattle.heap.specs.WellFormed.{well_formed};
-ghost use Rattle.heap.specs.Done.{Tells};
+ghost use Rattle.heap.specs.Inner.Tells.{Tells};
 ghost use Rattle.heap.specs.Inner.Loans.{state, Replies};
 ghost use Rattle.heap.specs.Calls.{free as freed};
-ghost use Rattle.door.specs.HeapCalls.{Entered, outcome, heap_call};
+ghost use Rattle.door.specs.HeapCalls.{outcome, heap_call};
+ghost use Rattle.door.specs.Inner.Entered.{Entered};
 ghost use Rattle.object_door.specs.ObjectCalls.{allocating, recycling, handed, take_call};
 ghost use Rattle.object_door.specs.Making.{new_tests, new_call};
 

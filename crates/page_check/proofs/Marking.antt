@@ -1,5 +1,10 @@
 -- Marking the values of a list, one bit each.
 use Prim.Native.Nat.{ℕ, ◌+◌, ◌-◌, ◌≤◌, ◌<◌}
+use Rattle.word.proofs.Bools.{true-false}
+use Rattle.rows.specs.Inner.Row.{bit_in}
+use Rattle.heap.specs.State.{bit, times}
+use Rattle.heap.proofs.Counting.{times-append}
+use Rattle.page_check.specs.Inner.Marks.{marked, Marked}
 use mathlib.Core.List.{List, [], ◌∷◌, ◌++◌}
 use mathlib.Core.Bool.{Bool, true, false, ◌||◌}
 use mathlib.Core.Path.{◌≡◌, refl, sym, ap, ◌∙◌, subst}
@@ -9,11 +14,6 @@ use lib.Seq.{take-suc, take_all}
 use native.Mathlib.Omega.{arith}
 use native.Mathlib.Numerals.{add-one}
 use borrow.Author.Tests.{eq-eqb, ne_eqb, eqb-true, eqb-false}
-use Rattle.word.proofs.Bools.{true-false}
-use Rattle.rows.specs.Inner.Row.{bit_in}
-use Rattle.heap.specs.State.{bit, times}
-use Rattle.heap.proofs.Counting.{times-append}
-use Rattle.page_check.specs.Inner.Marks.{marked, Marked}
 
 -- ONE VALUE
 

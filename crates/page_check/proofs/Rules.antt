@@ -1,29 +1,15 @@
 -- Bits, run after run, say that each slot is right by a rule. Assumes nothing.
 use Prim.Native.Nat.{ℕ, zero, suc, ◌+◌, ◌-◌, ◌/◌, ◌%◌, ◌≤◌, ◌<◌}
-use mathlib.Core.List.{List, [], ◌∷◌, ◌++◌, map}
-use mathlib.Core.Option.{some}
 use Rattle.std.specs.Prelude.{Option, Some, None, MatchOption}
-use mathlib.Core.Bool.{Bool, true, false, ◌&&◌}
-use mathlib.Core.Path.{◌≡◌, refl, sym, ap, ◌∙◌, subst}
-use lib.Dec.{ltb}
-use lib.ListN.{length, take, drop, replicate, get_or, take-append-drop, drop_of_length-le}
-use lib.Seq.{drop-drop, drop-cons}
-use native.Mathlib.Omega.{arith}
-use native.Mathlib.Nat.{zero-add, add-zero, sub-zero}
-use native.Mathlib.Numerals.{add-one}
-use borrow.Author.Tests.{ne_eqb}
-use Rattle.word.specs.Bit as word
 use Rattle.word.proofs.Bools.{and-true, and-false, and_assoc}
 use Rattle.word.proofs.BitLaws.{bit-of-zero}
 use Rattle.word.proofs.ListLaws.{get_or-zeros}
 use Rattle.rows.specs.Inner.Row.{bit_in}
-use Rattle.text.specs.Text.{give, Reader, ◌>>=◌}
 use Rattle.text.specs.Format.{read_all}
 use Rattle.text.proofs.Laws.{bind-some, some_inj}
 use Rattle.heap.specs.State.{Slot, bit}
-use Rattle.pages.specs.Page.{slot_format, out_of_column}
+use Rattle.pages.specs.Page.{out_of_column}
 use Rattle.pages.proofs.Writing.{blank}
-use Rattle.heap.specs.State as wf
 use Rattle.page_parser.specs.Inner.Values.{values_at}
 use Rattle.page_check.specs.Inner.Marks.{marked, Marked}
 use Rattle.page_check.specs.Inner.Rules.{expected, right, agree, each, listed, obeyed, RunChecked}
@@ -35,6 +21,21 @@ use Rattle.page_parser.specs.declared.Sections.{Sections}
 use Rattle.page_check.specs.declared.Rule.{Rule}
 use Rattle.page_check.specs.declared.Rule.TheVariants.{Once, Young, Worn}
 use Rattle.page_check.proofs.Marking.{mark-told, mark-both, mark-spoilt}
+use Rattle.text.specs.Reading.{give, Reader, ◌>>=◌}
+use Rattle.pages.specs.Reading.{slot_format}
+use mathlib.Core.List.{List, [], ◌∷◌, ◌++◌, map}
+use mathlib.Core.Option.{some}
+use mathlib.Core.Bool.{Bool, true, false, ◌&&◌}
+use mathlib.Core.Path.{◌≡◌, refl, sym, ap, ◌∙◌, subst}
+use lib.Dec.{ltb}
+use lib.ListN.{length, take, drop, replicate, get_or, take-append-drop, drop_of_length-le}
+use lib.Seq.{drop-drop, drop-cons}
+use native.Mathlib.Omega.{arith}
+use native.Mathlib.Nat.{zero-add, add-zero, sub-zero}
+use native.Mathlib.Numerals.{add-one}
+use borrow.Author.Tests.{ne_eqb}
+use Rattle.word.specs.Inner.Bit as word
+use Rattle.heap.specs.State as wf
 
 -- SLOT BY SLOT
 

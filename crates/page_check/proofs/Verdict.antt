@@ -1,24 +1,13 @@
 -- From the sections that were found to what a text is refused for. Assumes nothing.
 use Prim.Native.Nat.{ℕ, suc, ◌+◌, ◌≤◌, ◌<◌}
-use mathlib.Core.List.{List, [], ◌∷◌, ◌++◌}
-use mathlib.Core.Option.{none}
-use mathlib.Core.Bool.{Bool, true, false, not, ◌&&◌, ◌||◌}
-use mathlib.Core.Path.{◌≡◌, refl, sym, ap, ◌∙◌, subst}
-use Rattle.std.specs.Prelude.{Option, Some, None}
-use lib.Dec.{ltb, eqb}
-use lib.ListN.{length, get_or}
-use native.Mathlib.Omega.{arith}
-use native.Mathlib.Nat.{zero-add, add-zero}
-use native.Mathlib.Decide.{dec_lt, ℕ_discrete}
-use borrow.Author.Tests.{eqb-true, eq-eqb, ne_eqb, lt-ltb, le-ltb}
+use Rattle.std.specs.Prelude.{Option, Some, None, if◌then◌else◌}
 use Rattle.word.specs.Lists.{all, all_below}
-use Rattle.std.specs.Prelude.{if◌then◌else◌}
 use Rattle.word.specs.Result.{refused}
 use Rattle.word.proofs.Bools.{bool-ext, and-true, and-false, and_both, both-and, and_assoc}
 use Rattle.word.proofs.ListLaws.{at_all, below_at, at-below, below-same, below-front}
 use Rattle.heap.specs.State.{Slot, State, no_slot, slot_at, data_size, live, worn, bit, times}
 use Rattle.heap.specs.WellFormed.{places, partitioned, retired_rightly, sound_slot, sound_seals, sound_reclaim, sound}
-use Rattle.pages.specs.Page.{read_page, moved, sound_before}
+use Rattle.pages.specs.Page.{moved, sound_before}
 use Rattle.pages.proofs.Moving.{moved-sound}
 use Rattle.heap.proofs.Counting.{times-append, times-member}
 use Rattle.heap.proofs.Testing.{parts-tested, all-times}
@@ -30,6 +19,17 @@ use Rattle.page_check.specs.Inner.Accepting.{Accepted}
 use Rattle.page_parser.specs.declared.Sections.{Sections}
 use Rattle.page_check.specs.declared.Rule.{Rule}
 use Rattle.page_check.specs.declared.Rule.TheVariants.{Once, Young, Worn}
+use Rattle.pages.specs.Reading.{read_page}
+use mathlib.Core.List.{List, [], ◌∷◌, ◌++◌}
+use mathlib.Core.Option.{none}
+use mathlib.Core.Bool.{Bool, true, false, not, ◌&&◌, ◌||◌}
+use mathlib.Core.Path.{◌≡◌, refl, sym, ap, ◌∙◌, subst}
+use lib.Dec.{ltb, eqb}
+use lib.ListN.{length, get_or}
+use native.Mathlib.Omega.{arith}
+use native.Mathlib.Nat.{zero-add, add-zero}
+use native.Mathlib.Decide.{dec_lt, ℕ_discrete}
+use borrow.Author.Tests.{eqb-true, eq-eqb, ne_eqb, lt-ltb, le-ltb}
 
 -- ---- slot by slot from index i on
 

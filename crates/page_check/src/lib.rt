@@ -2,16 +2,16 @@
 #![tactic(auto)]
 
 ghost use Rattle.std.specs.Prelude.{◌≡◌, [], ◌∷◌, ◌*◌, ◌≤◌, length, drop, replicate, true, false, MatchOption};
-ghost use Rattle.text.specs.Text.{give};
 ghost use Rattle.text.specs.Format.{read_all};
 ghost use Rattle.heap.specs.State.{bit};
-ghost use Rattle.pages.specs.Page.{slot_format, read_page};
 ghost use Rattle.page_parser.specs.Inner.Values.{values_at, ValuesParsed};
 ghost use Rattle.page_parser.specs.Inner.Slots.{slots_at};
 ghost use Rattle.page_check.specs.Inner.Marks.{Marked};
 ghost use Rattle.page_check.specs.Inner.Rules.{right, agree};
 ghost use Rattle.page_check.specs.Inner.Accepting.{Checking};
 ghost use Rattle.page_check.specs.Verdict.{verdict};
+ghost use Rattle.text.specs.Reading.{give};
+ghost use Rattle.pages.specs.Reading.{slot_format, read_page};
 
 pub mod page;
 

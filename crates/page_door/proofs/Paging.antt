@@ -17,14 +17,16 @@ use Rattle.std.proofs.lemmas.Result.{IfOk-at_ok}
 use Rattle.heap.specs.Inner.Seen.{seen, state}
 use Rattle.heap.specs.declared.view.View.{View}
 use Rattle.heap.specs.Lent.{Lent, view, slot_count}
-use Rattle.door.specs.HeapCalls.{Entered, heap_tests, asked, enough, outcome, zeros}
-use Rattle.door.specs.HeapCalls.{Entry, entry_of}
+use Rattle.door.specs.HeapCalls.{heap_tests, asked, enough, outcome, zeros}
+use Rattle.door.specs.Inner.Entered.{Entered, entry_of}
+use Rattle.door.specs.HeapCalls.{Entry}
 use Rattle.door.specs.HeapCalls.{ready}
 use Rattle.door.proofs.Entering.{ask-refused, ask-ready, whether-not, whether-ready}
 use Rattle.pages.specs.Form.{written}
 use Rattle.pages.specs.Page.{page_text}
-use Rattle.pages.specs.Answer.{PageWritten, text_answer, text_out}
-use Rattle.page_reader.specs.Reading.{PageRead}
+use Rattle.pages.specs.Answer.{text_answer, text_out}
+use Rattle.pages.specs.Inner.PageWritten.{PageWritten}
+use Rattle.page_reader.specs.Inner.PageRead.{PageRead}
 use Rattle.page_door.specs.Page.{writing, page_out, reading}
 
 module _ (l : Lent) {marks work marks' work' : List ℕ} {e : Entry} (s : Entered (marks ∷ work ∷ []) (heap_tests marks work l) e (marks' ∷ work' ∷ [])) (planar : Bool) (out : List ℕ) where

@@ -1,25 +1,15 @@
 -- The whole of a page, part by part as the first pass reads it.
 use Prim.Native.Nat.{ℕ, suc, ◌-◌, ◌^◌, ◌≤◌, ◌<◌}
-use mathlib.Core.List.{List, [], ◌∷◌, ◌++◌, map}
-use mathlib.Core.Option as maybe
-use mathlib.Core.Option.{none, some}
-use mathlib.Core.Bool.{Bool, true, false, ◌&&◌}
-use mathlib.Core.Path.{◌≡◌, refl, sym, ap, ◌∙◌, subst}
 use Rattle.std.specs.Prelude.{Option, Some, None}
-use lib.Dec.{ltb}
-use lib.ListN.{length, drop, drop_of_length-le, length-map}
-use lib.Seq.{drop-cons}
-use native.Mathlib.Omega.{arith}
 use Rattle.word.specs.Lists.{all}
 use Rattle.word.proofs.ListLaws.{all_append}
-use Rattle.text.specs.Text.{give, read_literal}
-use Rattle.text.specs.Format.{Format, Right, number, pair, times, after_literal, mapped, read_all}
+use Rattle.text.specs.Text.{read_literal}
+use Rattle.text.specs.Format.{Format, number, pair, times, after_literal, mapped, read_all}
 use Rattle.text.proofs.Laws.{times-right, number-right}
 use Rattle.text.proofs.Getting.{suffix}
 use Rattle.heap.specs.State.{Slot, State, data_size}
 use Rattle.heap.specs.WellFormed.{sound_slot, sound_seals, sound_reclaim}
-use Rattle.pages.specs.Form.{Form, form_of, slot_named, free_name, quarantine_name, sealed_name}
-use Rattle.pages.specs.Page.{Head, head_format, body_format, slot_format, out_of_column, slots_format, retired_format, page_format, read_page, state_of}
+use Rattle.pages.specs.Form.{Form, form_of, free_name, quarantine_name, sealed_name}
 use Rattle.pages.proofs.Laws.{slot-right, slots-wider, head-right}
 use Rattle.page_parser.specs.Inner.Answer.{head_answer, slots_answer, lines_of, values_of, indices_more, seals_more}
 use Rattle.page_parser.specs.Inner.Values.{values_at, past_values, ValuesParsed}
@@ -33,6 +23,18 @@ use Rattle.page_parser.specs.declared.SlotLines.{SlotLines}
 use Rattle.page_parser.specs.declared.HeadRead.{HeadRead}
 use Rattle.page_parser.specs.declared.Values.{Values}
 use Rattle.page_parser.specs.declared.ListSection.{ListSection}
+use Rattle.text.specs.Reading.{give}
+use Rattle.text.specs.Inner.Right.{Right}
+use Rattle.pages.specs.Reading.{slot_named, Head, head_format, body_format, slot_format, out_of_column, slots_format, retired_format, page_format, read_page, state_of}
+use mathlib.Core.List.{List, [], ◌∷◌, ◌++◌, map}
+use mathlib.Core.Option as maybe
+use mathlib.Core.Option.{none, some}
+use mathlib.Core.Bool.{Bool, true, false, ◌&&◌}
+use mathlib.Core.Path.{◌≡◌, refl, sym, ap, ◌∙◌, subst}
+use lib.Dec.{ltb}
+use lib.ListN.{length, drop, drop_of_length-le, length-map}
+use lib.Seq.{drop-cons}
+use native.Mathlib.Omega.{arith}
 use mathlib.Core.Logic.{inl, inr, ⊎_elim}
 
 contradiction : ◌≡◌ {A = ℕ} 0 1 → ⊥
@@ -87,7 +89,7 @@ slots-none w s k cnt {r} e f = go (read_all (slot_format w).read cnt (drop k s))
     go (some y) q g = absurd (contradiction cc)
 
 line-right : (width : ℕ) → Right (number width 10) (λ n. n < 2 ^ width)
-unfolding Rattle.text.specs.Text.digit_of
+unfolding Rattle.text.specs.Reading.digit_of
 line-right width = number-right width 10 refl
 
 pub indices-found : (s : List ℕ) (k cnt : ℕ) (n : ℕ) {r : Option Values} (x : Values) → r ≡ indices_more (length s) n true (read_all (number 32 10).read cnt (drop k s)) → r ≡ Some x →

@@ -7,9 +7,8 @@ use Rattle.word.specs.Lists.{all}
 use Rattle.heap.specs.State.{Slot, data_of, data_size}
 use Rattle.heap.specs.Packing.{flat}
 use Rattle.heap.specs.WellFormed.{sound_slot}
-use Rattle.pages.specs.Form.{from_column}
-use Rattle.pages.specs.Page.{out_of_column}
 use Rattle.pages.proofs.Writing.{back-length}
+use Rattle.pages.specs.Reading.{from_column, out_of_column}
 
 pub same-sound : (p : Bool) (l : List Slot) → all sound_slot (map (out_of_column p) l) ≡ all sound_slot l
 unfolding all map sound_slot

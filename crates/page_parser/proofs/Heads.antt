@@ -1,5 +1,14 @@
 -- The line of a heap's numbers, field by field as the code reads it.
 use Prim.Native.Nat.{ℕ, ◌-◌, ◌^◌, ◌≤◌}
+use Rattle.text.specs.Format.{number, always, pair}
+use Rattle.text.specs.Inner.Answer.{value_answer}
+use Rattle.std.specs.Prelude.{Option, Some, None}
+use Rattle.text.proofs.Getting.{answer-none, both-same}
+use Rattle.page_parser.proofs.Reading.{comma-found, comma-none}
+use Rattle.page_parser.proofs.Lists.{value_found, value_none}
+use Rattle.page_parser.specs.Inner.Answer.{head_answer}
+use Rattle.text.specs.Reading.{give, read_field}
+use Rattle.pages.specs.Reading.{Head, sealed_end, retired_count, head_format}
 use mathlib.Core.Bool.{Bool, true, false}
 use mathlib.Core.List.{List}
 use mathlib.Core.Option as maybe
@@ -7,15 +16,6 @@ use mathlib.Core.Option.{none}
 use mathlib.Core.Path.{◌≡◌, sym, ap, ◌∙◌}
 use lib.ListN.{length, drop, length-drop}
 use native.Mathlib.Omega.{arith}
-use Rattle.text.specs.Text.{give, read_field}
-use Rattle.text.specs.Format.{number, always, pair}
-use Rattle.text.specs.Inner.Answer.{value_answer}
-use Rattle.std.specs.Prelude.{Option, Some, None}
-use Rattle.text.proofs.Getting.{answer-none, both-same}
-use Rattle.pages.specs.Page.{Head, sealed_end, retired_count, head_format}
-use Rattle.page_parser.proofs.Reading.{comma-found, comma-none}
-use Rattle.page_parser.proofs.Lists.{value_found, value_none}
-use Rattle.page_parser.specs.Inner.Answer.{head_answer}
 
 module _ (ret : Bool) (s : List ℕ) (at : ℕ) where
   abbrev read_head : maybe.Option (Head × List ℕ)

@@ -1,17 +1,7 @@
 -- The lists of a page, value by value as the code reads them.
 use Prim.Native.Nat.{ℕ, suc, ◌+◌, ◌-◌, ◌^◌, ◌≤◌, ◌<◌}
-use mathlib.Core.List.{List, ◌∷◌}
-use mathlib.Core.Option as maybe
-use mathlib.Core.Option.{none, some}
-use mathlib.Core.Bool.{Bool, ◌&&◌}
-use mathlib.Core.Path.{◌≡◌, refl, sym, ap, ◌∙◌}
-use lib.Dec.{ltb}
-use lib.ListN.{length, drop, length-drop}
-use native.Mathlib.Omega.{arith}
-use native.Mathlib.Numerals.{add-one}
 use Rattle.word.specs.Lists.{all}
 use Rattle.word.proofs.Bools.{and-true, and_assoc}
-use Rattle.text.specs.Text.{give, ◌>>=◌, digit_of, read_field}
 use Rattle.text.specs.Format.{number, read_all}
 use Rattle.text.specs.Inner.Answer.{value_answer}
 use Rattle.std.specs.Prelude.{Option, Some, None}
@@ -21,6 +11,16 @@ use Rattle.handle.specs.Handle.{index_of}
 use Rattle.page_parser.specs.Inner.Answer.{indices_more, values_of, seals_more, seal_test}
 use Rattle.page_parser.specs.declared.Values.{Values}
 use Rattle.page_parser.proofs.Reading.{all_none, all-some, all_done}
+use Rattle.text.specs.Reading.{give, ◌>>=◌, digit_of, read_field}
+use mathlib.Core.List.{List, ◌∷◌}
+use mathlib.Core.Option as maybe
+use mathlib.Core.Option.{none, some}
+use mathlib.Core.Bool.{Bool, ◌&&◌}
+use mathlib.Core.Path.{◌≡◌, refl, sym, ap, ◌∙◌}
+use lib.Dec.{ltb}
+use lib.ListN.{length, drop, length-drop}
+use native.Mathlib.Omega.{arith}
+use native.Mathlib.Numerals.{add-one}
 
 pub value_found : (s : List ℕ) (width at : ℕ) {r : Option (ℕ × ℕ)} (n k : ℕ) → r ≡ value_answer (length s) (read_field (2 ^ width - 1) 10 (drop at s)) → r ≡ Some (n, k) →
     ((number width 10).read (drop at s) ≡ give n (drop k s)) × (k ≤ length s) × (n < 2 ^ width)

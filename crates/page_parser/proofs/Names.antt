@@ -1,19 +1,20 @@
 -- A names line that ends in one of two ways, as the code reads it. Assumes nothing.
 use Prim.Native.Nat.{ℕ, ◌≤◌}
-use mathlib.Core.List.{List}
-use mathlib.Core.Bool.{Bool}
-use mathlib.Core.Option.{none}
-use mathlib.Core.Path.{◌≡◌, subst}
-use lib.ListN.{length, drop}
 use Rattle.text.specs.Text.{read_literal}
 use Rattle.text.specs.Format.{after_literal, either, pair}
 use Rattle.text.specs.Inner.Answer.{literal_answer, value_answer}
 use Rattle.std.specs.Prelude.{Option, Some, None}
 use Rattle.text.proofs.Getting.{literal-found, literal-lost, value-found, answer-none}
-use Rattle.pages.specs.Form.{names, slot_front, wide_writes, narrow_writes, planes_name, data_name, slot_named}
+use Rattle.pages.specs.Form.{slot_front, wide_writes, narrow_writes, planes_name, data_name}
 use Rattle.pages.proofs.Laws.{writes-right, columns-right}
 use Rattle.page_parser.specs.Inner.Parts.{NamesFound, NamesRead}
 use Rattle.page_parser.specs.declared.SlotNames.{SlotNames}
+use Rattle.pages.specs.Reading.{names, slot_named}
+use mathlib.Core.List.{List}
+use mathlib.Core.Bool.{Bool}
+use mathlib.Core.Option.{none}
+use mathlib.Core.Path.{◌≡◌, subst}
+use lib.ListN.{length, drop}
 
 module _ (front c d s : List ℕ) (at : ℕ) {q : Option ℕ} (e : q ≡ literal_answer (length s) (read_literal front (drop at s))) where
   -- its front is not there

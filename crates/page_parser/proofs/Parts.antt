@@ -1,20 +1,12 @@
 -- From the parts that were found, one after the other, to the page. Assumes nothing.
 use Prim.Native.Nat.{ℕ, ◌≤◌, ◌<◌}
-use mathlib.Core.List.{List, []}
-use mathlib.Core.Option.{none, some}
-use mathlib.Core.Bool.{Bool, true, false, ◌&&◌}
-use mathlib.Core.Logic.{inr, ⊎_elim}
-use mathlib.Core.Path.{◌≡◌, refl, sym, ap, ◌∙◌, subst}
 use Rattle.std.specs.Prelude.{Option, Some, None}
-use lib.Dec.{ltb}
-use lib.ListN.{length, drop}
 use Rattle.word.specs.Lists.{all}
-use Rattle.text.specs.Text.{give, read_literal}
+use Rattle.text.specs.Text.{read_literal}
 use Rattle.text.specs.Format.{always, after_literal, times, read_all, number}
 use Rattle.text.proofs.Laws.{some_inj}
 use Rattle.heap.specs.WellFormed.{sound_seals, sound_reclaim}
 use Rattle.pages.specs.Form.{free_name, quarantine_name, sealed_name, retired_name}
-use Rattle.pages.specs.Page.{head_format, retired_format, read_page}
 use Rattle.pages.proofs.Laws.{head-right, Count-good}
 use Rattle.page_parser.specs.Inner.Answer.{head_answer}
 use Rattle.page_parser.specs.Inner.Parts.{numbers_of, heap_named, HeadFound, HeadSectioned, SlotsFound, SlotSectioned, ListFound, ListSectioned, RetiredFound, RetiredSectioned, sections_of}
@@ -24,6 +16,15 @@ use Rattle.page_parser.specs.declared.SlotSection.{SlotSection}
 use Rattle.page_parser.specs.declared.ListSection.{ListSection}
 use Rattle.page_parser.specs.declared.Sections.{Sections}
 use Rattle.page_parser.proofs.Assembly.{head-found, head-lost, sectioned, page-none-1, page-none-2, page-none-3, page-none-4, page-none-5, page-none-6, page-none-7, page-none-8, page-none-9, page-none-10, page-none-11, page-long, page-whole}
+use Rattle.text.specs.Reading.{give}
+use Rattle.pages.specs.Reading.{head_format, retired_format, read_page}
+use mathlib.Core.List.{List, []}
+use mathlib.Core.Option.{none, some}
+use mathlib.Core.Bool.{Bool, true, false, ◌&&◌}
+use mathlib.Core.Logic.{inr, ⊎_elim}
+use mathlib.Core.Path.{◌≡◌, refl, sym, ap, ◌∙◌, subst}
+use lib.Dec.{ltb}
+use lib.ListN.{length, drop}
 
 pub head-told : (ret : Bool) (s : List ℕ) (a : ℕ) (r : Option HeadRead) → r ≡ head_answer ret (length s) ((head_format ret).read (drop a s)) → heap_named.read (drop 0 s) ≡ give ret (drop a s) → HeadSectioned s r
 head-told ret s a (Some x) e n =

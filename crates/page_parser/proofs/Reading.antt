@@ -1,18 +1,8 @@
 -- A slot's line, field by field as the code reads it.
 use Prim.Native.Nat.{ℕ, zero, suc, ◌+◌, ◌-◌, ◌*◌, ◌^◌, ◌≤◌, ◌<◌}
-use mathlib.Core.List.{List, [], ◌∷◌}
-use mathlib.Core.Option as maybe
-use mathlib.Core.Option.{none, some}
-use mathlib.Core.Path.{◌≡◌, refl, sym, ap, ◌∙◌, subst}
-use mathlib.Core.Bool.{Bool, true, false, ◌&&◌}
-use native.Mathlib.Nat.{zero-add}
-use lib.ListN.{length, drop, length-drop, length-append}
-use native.Mathlib.Omega.{arith}
-use lib.Dec.{leb}
-use borrow.Author.Tests.{le-leb}
 use Rattle.word.specs.Lists.{all}
 use Rattle.word.proofs.Bools.{and-true, and_assoc}
-use Rattle.text.specs.Text.{give, Reader, decimal, ◌>>=◌, digit_of, read_field, read_hex}
+use Rattle.text.specs.Text.{decimal}
 use Rattle.text.specs.Format.{number, bytes_line, pair, mapped, times, read_all}
 use Rattle.text.specs.Inner.Answer.{value_answer}
 use Rattle.std.specs.Prelude.{Option, Some, None}
@@ -25,11 +15,22 @@ use Rattle.page_parser.specs.declared.SlotRead.{SlotRead}
 use Rattle.heap.specs.State.{Slot, last_generation, data_of, data_size}
 use Rattle.heap.specs.Packing.{flat}
 use Rattle.pages.specs.Form.{writes_width}
-use Rattle.pages.specs.Page.{slot_format, fields_of}
 use Rattle.pages.specs.Inner.Columns.{slot}
 use Rattle.page_parser.specs.declared.SlotLines.{SlotLines}
 use Rattle.page_parser.specs.Inner.Answer.{slot_answer, slots_answer, slots_more, lines_of, sound_numbers}
 use Rattle.page_parser.specs.Inner.Slots.{slots_at, past_slots}
+use Rattle.text.specs.Reading.{give, Reader, ◌>>=◌, digit_of, read_field, read_hex}
+use Rattle.pages.specs.Reading.{slot_format, fields_of}
+use mathlib.Core.List.{List, [], ◌∷◌}
+use mathlib.Core.Option as maybe
+use mathlib.Core.Option.{none, some}
+use mathlib.Core.Path.{◌≡◌, refl, sym, ap, ◌∙◌, subst}
+use mathlib.Core.Bool.{Bool, true, false, ◌&&◌}
+use native.Mathlib.Nat.{zero-add}
+use lib.ListN.{length, drop, length-drop, length-append}
+use native.Mathlib.Omega.{arith}
+use lib.Dec.{leb}
+use borrow.Author.Tests.{le-leb}
 
 -- a field that was read, as the format reads it
 pub comma-found : (s : List ℕ) (width at : ℕ) {r : Option (ℕ × ℕ)} (n k : ℕ) → r ≡ value_answer (length s) (read_field (2 ^ width - 1) 44 (drop at s)) → r ≡ Some (n, k) →

@@ -1,13 +1,13 @@
 -- What is left to read of a run of lines, after some of them, for any reader. Assumes nothing.
 use Prim.Native.Nat.{ℕ, zero, suc, ◌+◌, ◌-◌, ◌≤◌, ◌<◌}
+use Rattle.text.specs.Format.{read_all}
+use Rattle.text.proofs.Laws.{bind-some, some_inj, none-not-some}
+use Rattle.text.specs.Reading.{give, Reader, ◌>>=◌}
 use mathlib.Core.List.{List, [], ◌∷◌}
 use mathlib.Core.Option.{Option, none, some}
 use mathlib.Core.Path.{◌≡◌, sym, ap, ◌∙◌, subst}
 use lib.ListN.{length, drop, get_or, length-drop}
 use native.Mathlib.Omega.{arith}
-use Rattle.text.specs.Text.{give, Reader, ◌>>=◌}
-use Rattle.text.specs.Format.{read_all}
-use Rattle.text.proofs.Laws.{bind-some, some_inj, none-not-some}
 
 module _ {A : Type 0} (r : Reader A) (d : A) where
   cons_drop : (l : List A) (i : ℕ) (v : A) (m : List A) → v ∷ m ≡ drop i l → (i < length l) × (v ≡ get_or l i d) × (m ≡ drop (i + 1) l)

@@ -1,13 +1,5 @@
 -- A list of a page, put into a column value by value: for any width of the values. Assumes nothing.
 use Prim.Native.Nat.{ℕ, ◌+◌, ◌-◌, ◌^◌, ◌≤◌, ◌<◌}
-use mathlib.Core.List.{List, [], ◌∷◌, ◌++◌}
-use mathlib.Core.Path.{◌≡◌, refl, sym, ap, ◌∙◌}
-use lib.ListN.{length, take, drop, set, length-set}
-use lib.Seq.{take-suc, take_all, length-take-le}
-use native.Mathlib.Omega.{arith}
-use native.Mathlib.Nat.{sub-zero}
-use native.Mathlib.Numerals.{add-one}
-use Rattle.text.specs.Text.{give, read_field}
 use Rattle.text.specs.Format.{number, read_all}
 use Rattle.text.specs.Inner.Answer.{value_answer}
 use Rattle.text.specs.Put.{put_text}
@@ -17,6 +9,14 @@ use Rattle.page_parser.specs.Inner.Values.{values_at, past_values, ValuesParsed}
 use Rattle.page_parser.proofs.Lists.{value_found, value_none}
 use Rattle.page_parser.proofs.Remaining.{read_next, read_some, read-end}
 use Rattle.page_reader.proofs.Filled.{col-next}
+use Rattle.text.specs.Reading.{give, read_field}
+use mathlib.Core.List.{List, [], ◌∷◌, ◌++◌}
+use mathlib.Core.Path.{◌≡◌, refl, sym, ap, ◌∙◌}
+use lib.ListN.{length, take, drop, set, length-set}
+use lib.Seq.{take-suc, take_all, length-take-le}
+use native.Mathlib.Omega.{arith}
+use native.Mathlib.Nat.{sub-zero}
+use native.Mathlib.Numerals.{add-one}
 
 -- i of the values are in the column, and the others stand in the text from k on
 pub record Listing (width : ℕ) (s : List ℕ) (at count : ℕ) (list₀ list : List ℕ) (k i : ℕ) : Type 0 where

@@ -1,22 +1,13 @@
 -- The whole heap as the second pass leaves it, and what a call of the reader answers. Assumes nothing.
 use Prim.Native.Nat.{ℕ, ◌+◌, ◌-◌, ◌*◌, ◌/◌, ◌^◌, ◌≤◌, ◌<◌}
-use mathlib.Core.List.{List, [], ◌∷◌, ◌++◌, map}
-use mathlib.Core.Bool.{Bool, true, false, not, ◌&&◌}
-use mathlib.Core.Option.{Option, none, some}
-use mathlib.Core.Path.{◌≡◌, refl, sym, ap, ◌∙◌, subst}
-use lib.Dec.{ltb, eqb, leb}
-use lib.ListN.{length, take, drop, replicate, length-replicate, length-append, length-drop}
-use native.Mathlib.Omega.{arith}
-use borrow.Author.Tests.{ltb-false, leb-true, eqb-true, eq-eqb}
 use Rattle.word.specs.Run.{run}
 use Rattle.word.specs.Result.{Result, ok, refused}
 use Rattle.word.proofs.Bools.{and_both, bool-ext}
 use Rattle.word.proofs.RunLaws.{length_run, run_room}
 use Rattle.text.specs.Put.{put_text}
-use Rattle.std.specs.Prelude.{if◌then◌else◌}
+use Rattle.std.specs.Prelude.{if◌then◌else◌, Ok, Err}
 use Rattle.refusal.specs.Told.{number_of, told}
 use Rattle.refusal.specs.declared.Refusal.{Refusal}
-use Rattle.std.specs.Prelude.{Ok, Err}
 use Rattle.word.specs.Lists.{all}
 use Rattle.word.proofs.ListLaws.{take-zeros}
 use Rattle.heap.specs.State.{Slot, State, slot_at, worn, data_of, data_size}
@@ -27,7 +18,7 @@ use Rattle.heap.specs.declared.Heap.{Heap}
 use Rattle.heap.proofs.Packing.{drop-replicate}
 use Rattle.heap.proofs.Recycled.{filter-total}
 use Rattle.pages.specs.Form.{Form, writes_width}
-use Rattle.pages.specs.Page.{out_of_column, read_page, moved, brought}
+use Rattle.pages.specs.Page.{moved, brought}
 use Rattle.pages.proofs.Writing.{back-length}
 use Rattle.pages.proofs.Bound.{parts, dead-length, sealed-length}
 use Rattle.page_parser.proofs.Columned.{same_size}
@@ -39,14 +30,23 @@ use Rattle.page_check.specs.Inner.Accepting.{Accepted, Checking}
 use Rattle.page_check.specs.Verdict.{verdict}
 use Rattle.page_check.specs.declared.page.Page.{Page}
 use Rattle.page_parser.specs.declared.Sections.{Sections}
-use Rattle.std.specs.Prelude as code
-use Rattle.std.specs.Prelude.{Ok, Err}
 use Rattle.page_reader.specs.Inner.Columns.{worn_in, stay_free, retire, ages, Below, with_numbers, with_parted, with_lists, NumbersFilled, FreeParted, ListsFilled, Roomy}
-use Rattle.page_reader.specs.Reading.{in_range, read_into, PageRead}
+use Rattle.page_reader.specs.Reading.{in_range, read_into}
 use Rattle.heap.specs.Sizes.{sizes_fit}
 use Rattle.heap.proofs.Sizes.{sizes-tested}
 use Rattle.page_reader.proofs.Loading.{padded}
 use Rattle.page_reader.proofs.Brought.{brought-free, brought-retired, retired_count, said-parted, free-below, free-young}
+use Rattle.pages.specs.Reading.{out_of_column, read_page}
+use Rattle.page_reader.specs.Inner.PageRead.{PageRead}
+use mathlib.Core.List.{List, [], ◌∷◌, ◌++◌, map}
+use mathlib.Core.Bool.{Bool, true, false, not, ◌&&◌}
+use mathlib.Core.Option.{Option, none, some}
+use mathlib.Core.Path.{◌≡◌, refl, sym, ap, ◌∙◌, subst}
+use lib.Dec.{ltb, eqb, leb}
+use lib.ListN.{length, take, drop, replicate, length-replicate, length-append, length-drop}
+use native.Mathlib.Omega.{arith}
+use borrow.Author.Tests.{ltb-false, leb-true, eqb-true, eq-eqb}
+use Rattle.std.specs.Prelude as code
 
 -- ZEROS
 

@@ -1,16 +1,8 @@
 -- The numbers of a page's slots, put into their runs slot by slot. Assumes nothing.
 use Prim.Native.Nat.{ℕ, ◌+◌, ◌-◌, ◌*◌, ◌/◌, ◌^◌, ◌≤◌, ◌<◌}
-use mathlib.Core.List.{List, map}
-use mathlib.Core.Bool.{true}
 use Rattle.std.specs.Prelude.{Option, Some, None}
-use mathlib.Core.Path.{◌≡◌, refl, sym, ap, ◌∙◌}
-use lib.ListN.{length, take, drop, get_or, set, length-set}
-use lib.Seq.{take_all}
-use native.Mathlib.Omega.{arith}
-use native.Mathlib.Nat.{sub-zero}
 use Rattle.word.specs.Run.{run}
 use Rattle.word.proofs.RunLaws.{length_run}
-use Rattle.text.specs.Text.{give}
 use Rattle.text.specs.Format.{read_all}
 use Rattle.text.specs.Put.{put_text}
 use Rattle.text.proofs.Putting.{put-nothing}
@@ -19,7 +11,6 @@ use Rattle.heap.specs.Packing.{flat, ends}
 use Rattle.heap.specs.Lent.{Lent, columns, cut}
 use Rattle.heap.specs.declared.Heap.{Heap}
 use Rattle.heap.proofs.Runs.{recount, with-generation, with-kind, with-type, with-end, with-writes, set-generation, set-kind, set-type, set-start, set-end, set-writes}
-use Rattle.pages.specs.Page.{slot_format}
 use Rattle.pages.proofs.Writing.{blank}
 use Rattle.page_parser.specs.Inner.Slots.{slots_at, past_slots, SlotsParsed}
 use Rattle.page_parser.specs.Inner.Answer.{slot_answer}
@@ -28,6 +19,15 @@ use Rattle.page_parser.proofs.Reading.{Found, line-found, line-lost}
 use Rattle.page_parser.proofs.Remaining.{read_next, read_some, read-end}
 use Rattle.page_reader.specs.Inner.Columns.{with_numbers, NumbersFilled}
 use Rattle.page_reader.proofs.Filled.{column-next, end-next, data-next}
+use Rattle.text.specs.Reading.{give}
+use Rattle.pages.specs.Reading.{slot_format}
+use mathlib.Core.List.{List, map}
+use mathlib.Core.Bool.{true}
+use mathlib.Core.Path.{◌≡◌, refl, sym, ap, ◌∙◌}
+use lib.ListN.{length, take, drop, get_or, set, length-set}
+use lib.Seq.{take_all}
+use native.Mathlib.Omega.{arith}
+use native.Mathlib.Nat.{sub-zero}
 
 -- the six numbers of slot i stored: an entry of six columns is set, and the others stay
 module _ (h : Heap) (S : ℕ) (narrow wide pool : List ℕ) (i g k t s w e : ℕ) (inside : i < S) where

@@ -1,23 +1,12 @@
 -- The free list of a page, put into its run slot by slot; the worn-out slots go to the run of the retired. Assumes nothing.
 use Prim.Native.Nat.{ℕ, ◌+◌, ◌-◌, ◌*◌, ◌/◌, ◌^◌, ◌≤◌, ◌<◌}
-use mathlib.Core.Bool.{Bool, true, false, not}
-use mathlib.Core.List.{List, [], ◌∷◌, ◌++◌, append-nil}
-use mathlib.Core.Path.{◌≡◌, refl, sym, ap, ◌∙◌}
-use lib.Dec.{eqb}
-use lib.ListN.{length, take, drop, get_or, length-set, length-append}
-use lib.Seq.{take-suc, take_all}
-use native.Mathlib.Omega.{arith}
-use native.Mathlib.Nat.{sub-zero}
-use native.Mathlib.Numerals.{add-one}
-use Rattle.std.specs.Prelude.{if◌then◌else◌}
+use Rattle.std.specs.Prelude.{if◌then◌else◌, Option, Some, None}
 use Rattle.word.specs.Run.{run}
 use Rattle.word.proofs.RunLaws.{length_run, first-get}
 use Rattle.word.specs.Lists.{filter}
-use Rattle.text.specs.Text.{give, read_field}
 use Rattle.text.specs.Format.{number, read_all}
 use Rattle.text.specs.Inner.Answer.{value_answer}
 use Rattle.text.specs.Put.{put_text}
-use Rattle.std.specs.Prelude.{Option, Some, None}
 use Rattle.text.proofs.Putting.{put-nothing}
 use Rattle.heap.specs.State.{last_generation}
 use Rattle.heap.specs.Lent.{Lent, columns, cut}
@@ -29,6 +18,16 @@ use Rattle.page_parser.proofs.Lists.{value_found, value_none}
 use Rattle.page_parser.proofs.Remaining.{read_next, read_some, read-end}
 use Rattle.page_reader.specs.Inner.Columns.{worn_in, stay_free, retire, with_parted, Below, PutIn, ages, FreeParted}
 use Rattle.page_reader.proofs.Filled.{col-next}
+use Rattle.text.specs.Reading.{give, read_field}
+use mathlib.Core.Bool.{Bool, true, false, not}
+use mathlib.Core.List.{List, [], ◌∷◌, ◌++◌, append-nil}
+use mathlib.Core.Path.{◌≡◌, refl, sym, ap, ◌∙◌}
+use lib.Dec.{eqb}
+use lib.ListN.{length, take, drop, get_or, length-set, length-append}
+use lib.Seq.{take-suc, take_all}
+use native.Mathlib.Omega.{arith}
+use native.Mathlib.Nat.{sub-zero}
+use native.Mathlib.Numerals.{add-one}
 
 -- i of the slots are in their runs, f of them free and r retired, and the others stand in the text from k on
 pub record Parting (s : List ℕ) (at count : ℕ) (narrow₀ narrow : List ℕ) (f r k i : ℕ) : Type 0 where

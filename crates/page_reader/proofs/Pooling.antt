@@ -1,23 +1,14 @@
 -- The data of a page's slots, put into the pool slot by slot. Assumes nothing.
 use Prim.Native.Nat.{ℕ, ◌+◌, ◌-◌, ◌*◌, ◌≤◌, ◌<◌}
-use mathlib.Core.List.{List, [], ◌∷◌, ◌++◌, append_assoc, map, map-append}
-use mathlib.Core.Bool.{Bool, true, false}
 use Rattle.std.specs.Prelude.{Option, Some, None}
-use mathlib.Core.Path.{◌≡◌, refl, sym, ap, ◌∙◌}
-use lib.ListN.{length, take, drop, get_or, length-drop, length-append}
-use lib.Seq.{take_all, drop-append_seam, drop-drop}
-use native.Mathlib.Omega.{arith}
-use native.Mathlib.Nat.{sub-zero}
-use Rattle.text.specs.Text.{give, hex, newline, read_hex}
+use Rattle.text.specs.Text.{hex, newline}
 use Rattle.text.specs.Format.{read_all}
 use Rattle.text.specs.Inner.Answer.{hex_at, HexParsed}
-use Rattle.text.specs.Put.{put_text, Puts}
+use Rattle.text.specs.Put.{put_text}
 use Rattle.text.proofs.Laws.{hex-forth, hex-length}
 use Rattle.text.proofs.Putting.{puts-puts, puts-at, puts_none}
 use Rattle.heap.specs.State.{Slot, data_of, data_size}
 use Rattle.heap.specs.Packing.{flat}
-use Rattle.pages.specs.Form.{from_column}
-use Rattle.pages.specs.Page.{slot_format, out_of_column}
 use Rattle.pages.specs.Inner.Columns.{field}
 use Rattle.pages.proofs.Laws.{slot-right, slot-prints}
 use Rattle.pages.proofs.Writing.{blank, slot-parts}
@@ -28,6 +19,16 @@ use Rattle.page_parser.proofs.Columned.{same_size}
 use Rattle.page_parser.proofs.Reading.{Found, line-found, line-lost}
 use Rattle.page_parser.proofs.Remaining.{read_next, read_some, read-end}
 use Rattle.page_reader.proofs.Filled.{take_more, data-next}
+use Rattle.text.specs.Reading.{give, read_hex}
+use Rattle.text.specs.Inner.Puts.{Puts}
+use Rattle.pages.specs.Reading.{from_column, slot_format, out_of_column}
+use mathlib.Core.List.{List, [], ◌∷◌, ◌++◌, append_assoc, map, map-append}
+use mathlib.Core.Bool.{Bool, true, false}
+use mathlib.Core.Path.{◌≡◌, refl, sym, ap, ◌∙◌}
+use lib.ListN.{length, take, drop, get_or, length-drop, length-append}
+use lib.Seq.{take_all, drop-append_seam, drop-drop}
+use native.Mathlib.Omega.{arith}
+use native.Mathlib.Nat.{sub-zero}
 
 hex-is : (s : List ℕ) (at : ℕ) (bs rest : List ℕ) → read_hex (drop at s) ≡ give bs rest → hex_at s at ≡ bs
 unfolding hex_at

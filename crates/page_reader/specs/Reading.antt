@@ -1,14 +1,12 @@
 -- What reading a page answers and leaves (01, "Page"; 02, [11]): 17, then 1, 6 and 5, or which names were met; a refusal changes nothing, and what the lent heap held before isn't looked at.
-use Rattle.std.specs.Prelude.{ℕ, ◌+◌, Bool, ◌&&◌, List, ◌≡◌, eqb, leb, length, if◌then◌else◌}
+use Rattle.std.specs.Prelude.{ℕ, ◌+◌, Bool, ◌&&◌, List, eqb, leb, length, if◌then◌else◌}
 use Rattle.word.specs.Result.{Result, ok, refused}
-use Rattle.refusal.specs.Told.{told, answered}
-use Rattle.refusal.specs.Told.{Reply}
 use Rattle.heap.specs.State.{State}
 use Rattle.heap.specs.Lent.{Lent, stored, slot_count, pool_size}
 use Rattle.pages.specs.Form.{Form, writes_width}
-use Rattle.pages.specs.Page.{read_page}
 use Rattle.page_parser.specs.Contents.{form_in}
 use Rattle.page_check.specs.Verdict.{verdict}
+use Rattle.pages.specs.Reading.{read_page}
 
 -- the lengths of what is lent are right (`sizesFit`), said of the runs: S and pool in range, the last run of either list has S entries, and nothing lies past them
 unfoldable pub in_range : Lent → Bool
@@ -34,8 +32,3 @@ left l f (refused n) = record { lent = l; answer = refused n }
 
 unfoldable pub read_into : Lent → (text : List ℕ) → Left
 read_into l text = left l (form_in text) (verdict (in_range l) (slot_count l) (pool_size l) (read_page text))
-
--- `l` before the call, `l'` after it
-pub record PageRead (l l' : Lent) (text : List ℕ) (r : Reply) : Type 0 where
-  pub lent : l' ≡ (read_into l text).lent
-  pub answer : told r ≡ answered bits_met names_met (read_into l text).answer

@@ -2,10 +2,9 @@
 #![tactic(auto)]
 
 ghost use Rattle.std.specs.Prelude.{◌≡◌, map, ◌+◌, ◌-◌, ◌*◌, ◌/◌, ◌^◌, ◌≤◌, ◌<◌, length, replicate, if◌then◌else◌};
-ghost use Rattle.text.specs.Put.{put_text, Puts};
+ghost use Rattle.text.specs.Put.{put_text};
 ghost use Rattle.text.specs.Inner.Answer.{hex_at};
-ghost use Rattle.pages.specs.Form.{writes_width, from_column};
-ghost use Rattle.pages.specs.Page.{out_of_column};
+ghost use Rattle.pages.specs.Form.{writes_width};
 ghost use Rattle.heap.specs.State.{data_of, data_size};
 ghost use Rattle.heap.specs.Packing.{flat};
 ghost use Rattle.page_parser.specs.Inner.Values.{values_at, ValuesParsed};
@@ -14,7 +13,9 @@ ghost use Rattle.heap.specs.Lent.{lent, header_of, stored};
 ghost use Rattle.page_parser.specs.Contents.{heap_in};
 ghost use Rattle.page_parser.specs.Inner.Sections.{brought_in};
 ghost use Rattle.page_reader.specs.Inner.Columns.{NumbersFilled, Below, PutIn, FreeParted, ListsFilled, Roomy};
-ghost use Rattle.page_reader.specs.Reading.{PageRead};
+ghost use Rattle.text.specs.Inner.Puts.{Puts};
+ghost use Rattle.pages.specs.Reading.{from_column, out_of_column};
+ghost use Rattle.page_reader.specs.Inner.PageRead.{PageRead};
 
 use heap::{Changed, Heap};
 use page_check::page::Page;

@@ -11,7 +11,7 @@ use Rattle.word.proofs.PutLaws.{take_put}
 use Rattle.heap.specs.Lent.{Lent, view}
 use Rattle.page_runs.specs.declared.Run.{Run}
 use Rattle.page_runs.specs.Printed.{printed}
-use Rattle.page_runs.specs.Inner.Steps.{text_left, Begun, Goes, Ends}
+use Rattle.page_runs.specs.Steps.{text_left, Begun, Goes, Ends}
 
 -- `rest` is the input that is not yet read
 pub record Going (input : List ℕ) (r : Run) (l : Lent) (buf rest : List ℕ) : Type 0 where

@@ -11,7 +11,8 @@ use Rattle.word.proofs.Bools.{and_both}
 use Rattle.word.specs.Lists.{all}
 use Rattle.word.specs.Put.{put}
 use Rattle.word.proofs.PutLaws.{take_put}
-use Rattle.text.specs.Text.{give, ascii, comma, digit_of, read_literal, read_field}
+use Rattle.text.specs.Text.{ascii, comma, read_literal}
+use Rattle.text.specs.Reading.{give, digit_of, read_field}
 use Rattle.text.specs.Format.{number}
 use Rattle.text.specs.Inner.Answer.{value_answer, literal_answer}
 use Rattle.std.specs.Prelude.{◌↔◌, Option, Some, None}

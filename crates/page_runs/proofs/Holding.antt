@@ -22,7 +22,8 @@ use Rattle.page_runs.specs.declared.At.{At}
 use Rattle.page_runs.specs.declared.At.TheVariants.{Lines}
 use Rattle.page_runs.specs.declared.Run.{Run}
 use Rattle.page_runs.specs.Printed.{shown}
-use Rattle.page_runs.specs.Inner.Steps.{text_left, Goes, Ran, Says, Cut, over_with}
+use Rattle.page_runs.specs.Inner.Steps.{Ran, Says, Cut, over_with}
+use Rattle.page_runs.specs.Steps.{text_left, Goes}
 use Rattle.page_runs.specs.Inner.Long.{Open, Bad, Alike, Shortens}
 
 -- ---- held

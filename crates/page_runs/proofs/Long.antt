@@ -12,14 +12,17 @@ use borrow.Author.Tests.{ne_eqb}
 use Rattle.std.specs.Prelude.{if◌then◌else◌}
 use Rattle.word.specs.Lists.{all}
 use Rattle.word.proofs.Bools.{and_both}
-use Rattle.text.specs.Text.{give, ◌>>=◌, ascii, newline, comma, decimal, digits, line, digit_of, hex_digit, hex_digit_of, byte_of, hex, Bytes, read_hex}
-use Rattle.text.specs.Format.{All, number, bytes_line, pair}
+use Rattle.text.specs.Text.{ascii, newline, comma, decimal, digits, line, hex_digit, hex, Bytes, All}
+use Rattle.text.specs.Reading.{give, ◌>>=◌, digit_of, hex_digit_of, byte_of, read_hex}
+use Rattle.text.specs.Format.{number, bytes_line, pair}
 use Rattle.text.proofs.Laws.{none-not-some, decimal-length, byte-forth, hex-digit-above, hex-digit-back, literal-forth, number-right}
 use Rattle.heap.specs.State.{State}
 use Rattle.heap.specs.Calls.{Changed, refuse}
 use Rattle.heap_calls.proofs.Allocating.{alloc-none}
 use Rattle.object_door.specs.ObjectCalls.{is_kind, allocating}
-use Rattle.script.specs.Script.{Call, alloc, take as takes, seal, recycle, Within, call_line, alloc_format, read_alloc, read_call, doing, and_then, run_script}
+use Rattle.script.specs.Script.{doing, and_then, run_script}
+use Rattle.script.specs.Calls.{Call, alloc, take as takes, seal, recycle, Within, call_line}
+use Rattle.script.specs.Reading.{alloc_format, read_alloc, read_call}
 use Rattle.script.proofs.Reading.{call_back}
 use Rattle.script.proofs.Scripts.{run_call, run-bad}
 use Rattle.page_runs.specs.Inner.Long.{Open, head_of, read_head, DataFrom, is_hex, Bad, Alike}

@@ -9,7 +9,7 @@ use Rattle.page_runs.specs.declared.At.{At}
 use Rattle.page_runs.specs.declared.At.TheVariants.{Over}
 use Rattle.page_runs.specs.declared.Run.{Run}
 use Rattle.page_runs.specs.Runs.{Runs, ended, over, goes, RunPrints}
-use Rattle.page_runs.specs.Inner.Steps.{text_left}
+use Rattle.page_runs.specs.Steps.{text_left}
 
 -- nothing more is looked at
 over-left : (at : At) (n : ℕ) (failed : Bool) (l : Lent) (t u : List ℕ) → at ≡ Over n → text_left at failed (view l) t ≡ text_left at failed (view l) u

@@ -30,12 +30,15 @@ use Rattle.std.specs.Prelude.{Ok, Err}
 use Rattle.door.specs.HeapCalls.{ready}
 use Rattle.door.proofs.Entering.{is-enough, calling-not, calling-ready}
 use Rattle.object_door.specs.ObjectCalls.{is_kind, allocating, recycling}
-use Rattle.script.specs.Script.{Call, alloc, take, seal, recycle, call_of, lines, is_call, first_is_call, begins_call, silent, doing, line_does, unless, run_lines, run_script}
+use Rattle.script.specs.Script.{lines, is_call, first_is_call, begins_call, silent, doing, line_does, unless, run_lines, run_script}
+use Rattle.script.specs.Calls.{Call, alloc, take, seal, recycle}
+use Rattle.script.specs.Reading.{call_of}
 use Rattle.script.proofs.Refusing.{Numbered, alloc-numbered, free-numbered}
 use Rattle.run_door.specs.Run.{run_tests, run_call}
 use Rattle.heap.proofs.Storing.{stored-count, stored-room}
 use Rattle.page_runs.specs.declared.Run.{Run}
-use Rattle.page_runs.specs.Inner.Steps.{Lies, Good, Ran}
+use Rattle.page_runs.specs.Inner.Steps.{Ran}
+use Rattle.page_runs.specs.Steps.{Lies, Good}
 
 -- ---- a call keeps the heap sound, and is not refused with 0
 

@@ -29,7 +29,8 @@ use Rattle.page_runs.specs.declared.At.{At}
 use Rattle.page_runs.specs.declared.At.TheVariants.{Names, Lines, Over}
 use Rattle.page_runs.specs.declared.Run.{Run}
 use Rattle.page_runs.specs.Printed.{names_line, after_names, printed}
-use Rattle.page_runs.specs.Inner.Steps.{text_left, Lies, Good, Begun, Goes, is_there, over_with}
+use Rattle.page_runs.specs.Inner.Steps.{is_there, over_with}
+use Rattle.page_runs.specs.Steps.{text_left, Lies, Good, Begun, Goes}
 use Rattle.page_runs.proofs.Naming.{literal-on, literal-never}
 use Rattle.page_runs.proofs.Holding.{stands}
 

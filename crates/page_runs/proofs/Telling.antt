@@ -16,7 +16,8 @@ use Rattle.word.specs.Result.{Result, ok, refused}
 use Rattle.heap.specs.Calls.{done}
 use Rattle.word.proofs.PutLaws.{take_put}
 use Rattle.text.specs.Text.{newline, decimal, line}
-use Rattle.text.specs.Put.{put_text, Puts}
+use Rattle.text.specs.Put.{put_text}
+use Rattle.text.specs.Inner.Puts.{Puts}
 use Rattle.text.proofs.Laws.{digits-few}
 use Rattle.text.proofs.Putting.{puts-puts}
 use Rattle.refusal.specs.Told.{answered, here, nothing}
@@ -38,7 +39,8 @@ use Rattle.page_runs.specs.declared.At.{At}
 use Rattle.page_runs.specs.declared.At.TheVariants.{Names, Lines, Over}
 use Rattle.page_runs.specs.declared.Run.{Run}
 use Rattle.page_runs.specs.Printed.{names_line, shown_by, shown, after_names}
-use Rattle.page_runs.specs.Inner.Steps.{text_left, Lies, Short, Ran, Says, Ends}
+use Rattle.page_runs.specs.Inner.Steps.{Ran, Says}
+use Rattle.page_runs.specs.Steps.{text_left, Lies, Short, Ends}
 use Rattle.page_runs.proofs.Naming.{literal-short}
 use Rattle.page_runs.proofs.Starting.{names-length}
 

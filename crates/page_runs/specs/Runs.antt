@@ -4,7 +4,7 @@ use Rattle.heap.specs.Lent.{Lent, view}
 use Rattle.page_runs.specs.declared.At.TheVariants.{Over}
 use Rattle.page_runs.specs.declared.Run.{Run}
 use Rattle.page_runs.specs.Printed.{printed}
-use Rattle.page_runs.specs.Inner.Steps.{text_left, Begun, Goes, Ends}
+use Rattle.page_runs.specs.Steps.{text_left, Begun, Goes, Ends}
 
 -- what the last step puts
 abbrev pub Last : (failed : Bool) → Run → Lent → (buf out : List ℕ) → ℕ → Type 0

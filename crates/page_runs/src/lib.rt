@@ -9,7 +9,8 @@ ghost use Rattle.heap.specs.Lent.{view};
 ghost use Rattle.pages.specs.Page.{value_line, page_text};
 ghost use Rattle.pages.specs.Form.{written};
 ghost use Rattle.page_runs.specs.Printed.{names_line, printed};
-ghost use Rattle.page_runs.specs.Inner.Steps.{text_left, Begun, Goes, Ends, Ran, Cut, is_there, is_over, over_with};
+ghost use Rattle.page_runs.specs.Inner.Steps.{Ran, Cut, is_there, is_over, over_with};
+ghost use Rattle.page_runs.specs.Steps.{text_left, Begun, Goes, Ends};
 ghost use Rattle.page_runs.specs.Inner.Held.{lies};
 ghost use Rattle.page_runs.specs.Inner.Long.{Open, HeadFound, AllHex, Shortens};
 

@@ -1,6 +1,6 @@
 // A run of the program `page` and the memory that it owns.
 ghost use Rattle.heap.specs.Lent.{lent};
-ghost use Rattle.page_runs.specs.Inner.Steps.{Good};
+ghost use Rattle.page_runs.specs.Steps.{Good};
 
 use crate::Run;
 

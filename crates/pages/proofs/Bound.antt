@@ -7,8 +7,7 @@ use lib.ListN.{length, get_or, length-append}
 use native.Mathlib.Omega.{arith}
 use lib.Dec.{eqb, leb}
 use borrow.Author.Tests.{lt-ltb, le-ltb, leb-true}
-use Rattle.text.specs.Text.{ascii, decimal, line}
-use Rattle.text.specs.Format.{All}
+use Rattle.text.specs.Text.{ascii, decimal, line, All}
 use Rattle.text.proofs.Laws.{decimal-length, decimal-length-one, digits-few}
 use Rattle.word.specs.Lists.{all}
 use Rattle.word.proofs.Bools.{and_both}

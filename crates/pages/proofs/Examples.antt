@@ -6,14 +6,16 @@ use mathlib.Core.List.{List, [], ◌∷◌, ◌++◌, map, flat_map}
 use mathlib.Core.Option.{none, some}
 use mathlib.Core.Path.{◌≡◌, refl}
 use lib.ListN.{replicate}
-use Rattle.text.specs.Text.{ascii, digits, decimal, hex_digit, hex, line, digit_of, ends, scan, capped, after, read_decimal, hex_digit_of, byte_of, read_hex, read_literal, read_field}
+use Rattle.text.specs.Text.{ascii, digits, decimal, hex_digit, hex, line, read_literal}
+use Rattle.text.specs.Reading.{digit_of, ends, scan, capped, after, read_decimal, hex_digit_of, byte_of, read_hex, read_field}
 use Rattle.text.specs.Format.{number, bytes_line, after_literal, either, always, pair, times, mapped, read_all}
 use Rattle.word.specs.Le.{le, bytes}
 use Rattle.word.specs.Lists.{tabulate}
 use Rattle.planes.specs.Planes.{lessened, summed, rows, turned, planes, restored}
 use Rattle.heap.specs.State.{Slot, State}
-use Rattle.pages.specs.Form.{form_of, written, earlier, heap_front, retired_too, no_retired, heap_names, slot_front, wide_writes, narrow_writes, planes_name, data_name, slot_names, slot_named, free_name, quarantine_name, sealed_name, retired_name}
-use Rattle.pages.specs.Page.{slot_line, value_line, numbers_line, heap_line, retired_part, page_text, slot_format, slots_format, retired_count, head_format, retired_format, body_format, page_format, read_page, moved}
+use Rattle.pages.specs.Form.{form_of, written, earlier, heap_front, retired_too, no_retired, heap_names, slot_front, wide_writes, narrow_writes, planes_name, data_name, slot_names, free_name, quarantine_name, sealed_name, retired_name}
+use Rattle.pages.specs.Reading.{slot_named, slot_format, slots_format, retired_count, head_format, retired_format, body_format, page_format, read_page}
+use Rattle.pages.specs.Page.{slot_line, value_line, numbers_line, heap_line, retired_part, page_text, moved}
 
 -- 01's heap, but for the number of its writes
 sample : ℕ → State

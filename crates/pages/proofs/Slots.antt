@@ -6,7 +6,7 @@ use mathlib.Core.Path.{◌≡◌, refl, sym, ap, ◌∙◌}
 use lib.ListN.{length, take, drop, get_or, length-take, length-drop}
 use native.Mathlib.Omega.{arith}
 use Rattle.word.proofs.RunLaws.{run-get, first-get}
-use Rattle.text.specs.Put.{Puts}
+use Rattle.text.specs.Inner.Puts.{Puts}
 use Rattle.text.proofs.Putting.{puts_none, puts-at}
 use Rattle.heap.specs.State.{Slot}
 use Rattle.heap.specs.Packing.{start_of, data_at}

@@ -8,12 +8,12 @@ use lib.Seq.{length-take-le}
 use native.Mathlib.Omega.{arith}
 use native.Mathlib.Nat.{zero-add}
 use borrow.Author.Tests.{le-leb, lt-leb}
-use Rattle.text.specs.Put.{Puts}
+use Rattle.text.specs.Inner.Puts.{Puts}
 use Rattle.pages.specs.Form.{written, heap_names, slot_names, free_name, quarantine_name, sealed_name, retired_name}
 use Rattle.pages.specs.Page.{value_line, slot_line, numbers_line, heap_line, retired_part, page_text}
 use Rattle.heap.specs.Lent.{Lent, lent, view}
 use Rattle.pages.specs.Inner.Columns.{slots_in, Ready}
-use Rattle.pages.specs.Answer.{PageWritten}
+use Rattle.pages.specs.Inner.PageWritten.{PageWritten}
 use Rattle.heap.specs.declared.Heap.{Heap}
 use Rattle.word.specs.Result.{ok}
 use Rattle.refusal.specs.Told.{told, answered, here, nothing}

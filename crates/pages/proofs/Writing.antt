@@ -9,13 +9,14 @@ use native.Mathlib.Omega.{arith}
 use native.Mathlib.Numerals.{add-one}
 use Rattle.text.specs.Text.{decimal, hex, line}
 use Rattle.word.proofs.ListLaws.{length-tabulate, get_d_tabulate}
-use Rattle.text.specs.Put.{Puts}
+use Rattle.text.specs.Inner.Puts.{Puts}
 use Rattle.text.proofs.Laws.{hex-length}
 use Rattle.text.proofs.Putting.{puts-puts, puts-at}
 use Rattle.heap.specs.State.{Slot}
 use Rattle.planes.specs.Planes.{planes}
 use Rattle.planes.proofs.Laws.{length-planes, length-restored}
-use Rattle.pages.specs.Form.{column, from_column}
+use Rattle.pages.specs.Form.{column}
+use Rattle.pages.specs.Reading.{from_column}
 use Rattle.pages.specs.Page.{value_line, slot_line, numbers_line}
 use Rattle.heap.specs.Lent.{Lent, slot_in}
 use Rattle.pages.specs.Inner.Columns.{slot, slots_in, field, head_fields}

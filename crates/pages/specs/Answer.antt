@@ -1,9 +1,7 @@
 -- What the writer answers, and what it leaves in the lent output.
-use Rattle.std.specs.Prelude.{ℕ, List, ◌≡◌, leb, length, if◌then◌else◌}
+use Rattle.std.specs.Prelude.{ℕ, List, leb, length, if◌then◌else◌}
 use Rattle.word.specs.Result.{Result, ok, refused}
 use Rattle.text.specs.Put.{put_text}
-use Rattle.refusal.specs.Told.{told, answered, here, nothing}
-use Rattle.refusal.specs.Told.{Reply}
 
 -- how many bytes the text takes, or an output too short: 7
 abbrev pub text_answer : (text out : List ℕ) → Result ℕ
@@ -12,7 +10,3 @@ text_answer text out = if leb (length text) (length out) then ok (length text) e
 -- the text stands at the start of the output, which stays beyond it; an output too short stays whole
 abbrev pub text_out : (text out : List ℕ) → List ℕ
 text_out text out = if leb (length text) (length out) then put_text out 0 text else out
-
-pub record PageWritten (before after text : List ℕ) (r : Reply) : Type 0 where
-  pub answer : told r ≡ answered here nothing (text_answer text before)
-  pub out : after ≡ text_out text before

@@ -1,8 +1,7 @@
 -- The forms of a page, and the names by which they are told apart. One form is written; every form is read.
 use Rattle.std.specs.Prelude.{Bool, true, false, List, ◌++◌, ℕ, if◌then◌else◌}
 use Rattle.text.specs.Text.{ascii}
-use Rattle.text.specs.Format.{Format, after_literal, either, pair}
-use Rattle.planes.specs.Planes.{planes, restored}
+use Rattle.planes.specs.Planes.{planes}
 
 -- write counts of 64 bits under the name `writes64`, or of 32 bits under `writes` (request [6]); with the list `retired` as the last, or without it (request [7]);
 -- objects in byte planes under the name `planes`, or as they are under `data` (request [11])
@@ -30,14 +29,7 @@ writes_width wide = if wide then 64 else 32
 abbrev pub column : (planar : Bool) → List ℕ → List ℕ
 column planar bytes = if planar then planes 8 bytes else bytes
 
-abbrev pub from_column : (planar : Bool) → List ℕ → List ℕ
-from_column planar bytes = if planar then restored 8 bytes else bytes
-
 -- NAMES
-
--- a names line that ends in one of two ways
-abbrev pub names : (front first second : List ℕ) → Format Bool
-names front first second = after_literal front (either first second)
 
 unfoldable pub heap_front : List ℕ
 heap_front = ascii "tag,since_gc,reclaim_at,live_bytes,slots,free,quarantine,sealed"
@@ -70,10 +62,6 @@ data_name = ascii "data\n"
 -- the names line of the slots
 unfoldable pub slot_names : Form → List ℕ
 slot_names f = slot_front ++ (if f.wide then wide_writes else narrow_writes) ++ (if f.planar then planes_name else data_name)
-
--- it is read in two steps: which write counts, then which column
-unfoldable pub slot_named : Format (Bool × Bool)
-slot_named = pair (names slot_front wide_writes narrow_writes) λ _. either planes_name data_name
 
 unfoldable pub free_name : List ℕ
 free_name = ascii "free\n"

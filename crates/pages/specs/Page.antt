@@ -1,14 +1,12 @@
 -- The page (01, "Page"; requests [6], [7] and [11]): a heap as text, in every form. Epoch and log are not saved, and read as 0.
 use Rattle.std.specs.Prelude.{ℕ, ◌<◌, ◌^◌, Bool, true, false, ◌&&◌, ◌≡◌, length, replicate, if◌then◌else◌}
-use mathlib.Core.List.{List, [], ◌∷◌, ◌++◌, map, flat_map}
-use Rattle.std.proofs.Math.Option.{Option, none, some}
-use Rattle.text.specs.Text.{◌>>=◌, decimal, hex, line, newline, comma, Bytes}
-use Rattle.text.specs.Format.{Format, number, bytes_line, always, after_literal, pair, times, mapped, All}
+use mathlib.Core.List.{List, [], ◌∷◌, ◌++◌, flat_map}
+use Rattle.text.specs.Text.{decimal, hex, line, Bytes, All}
 use Rattle.heap.specs.State.{Slot, State, with_free}
 use Rattle.heap.specs.Calls.{freed}
 use Rattle.heap.specs.WellFormed.{sound_slot, partitioned, sound_seals, sound_reclaim}
 use Rattle.word.specs.Lists.{all}
-use Rattle.pages.specs.Form.{Form, form_of, writes_width, column, from_column, heap_front, retired_too, no_retired, heap_names, slot_names, slot_named, names, free_name, quarantine_name, sealed_name, retired_name}
+use Rattle.pages.specs.Form.{Form, writes_width, column, heap_names, slot_names, free_name, quarantine_name, sealed_name, retired_name}
 
 -- WRITING
 
@@ -25,6 +23,7 @@ unfoldable pub numbers_line : (retiring : Bool) (tag since_gc reclaim_at live_by
 numbers_line retiring t s r l n f q z w =
     line (decimal t ∷ decimal s ∷ decimal r ∷ decimal l ∷ decimal n ∷ decimal f ∷ decimal q ∷ decimal z ∷ (if retiring then decimal w ∷ [] else []))
 
+-- line 2: the counts are those of the lists
 unfoldable pub heap_line : (retiring : Bool) → State → List ℕ
 heap_line r h =
     numbers_line r h.tag h.since_gc h.reclaim_at h.live_bytes (length h.slots) (length h.free) (length h.quarantine) (length h.sealed) (length h.retired)
@@ -32,6 +31,7 @@ heap_line r h =
 unfoldable pub retired_part : (retiring : Bool) → List ℕ → List ℕ
 retired_part r l = if r then retired_name ++ flat_map value_line l else []
 
+-- THE PAGE: "Names, then values in that order", line 2 with the counts, then the lists, one value a line, "in list order"
 unfoldable pub page_text : Form → State → List ℕ
 page_text f h =
     heap_names f ++ heap_line f.retiring h
@@ -77,120 +77,6 @@ pub record Unsaved (h : State) : Type 0 where
   pub log : h.log ≡ replicate 16 0
 
 -- READING: one format for all forms, field after field
-
-abbrev pub Fields : Type 0
-Fields = ℕ × (ℕ × (ℕ × (ℕ × (ℕ × List ℕ))))
-
-abbrev pub slot_of : Fields → Slot
-slot_of f = record { generation = f.0; kind = f.1.0; type = f.1.1.0; start = f.1.1.1.0; writes = f.1.1.1.1.0; bytes = f.1.1.1.1.1 }
-
-abbrev pub fields_of : Slot → Fields
-fields_of s = (s.generation, (s.kind, (s.type, (s.start, (s.writes, s.bytes)))))
-
--- a slot's line as it stands: the bytes are its column
-unfoldable pub slot_format : (wide : Bool) → Format Slot
-slot_format w =
-    mapped slot_of fields_of
-    (pair (number 32 comma) λ _. pair (number 8 comma) λ _. pair (number 32 comma) λ _. pair (number 64 comma) λ _. pair (number (writes_width w) comma) λ _. bytes_line)
-
-abbrev pub with_bytes : Slot → List ℕ → Slot
-with_bytes s bs = record { generation = s.generation; kind = s.kind; type = s.type; start = s.start; writes = s.writes; bytes = bs }
-
--- a slot with its column for its bytes, and the way back
-abbrev pub in_column : (planar : Bool) → Slot → Slot
-in_column p s = with_bytes s (column p s.bytes)
-
-abbrev pub out_of_column : (planar : Bool) → Slot → Slot
-out_of_column p s = with_bytes s (from_column p s.bytes)
-
--- n slots
-unfoldable pub slots_format : (wide planar : Bool) (n : ℕ) → Format (List Slot)
-slots_format w p n = mapped (map (out_of_column p)) (map (in_column p)) (times n (slot_format w))
-
--- the numbers of line 2: tag, since_gc, reclaim_at, live_bytes, then the counts: slots, free, quarantine, sealed, retired
-abbrev pub Counts : Type 0
-Counts = ℕ × (ℕ × (ℕ × (ℕ × ℕ)))
-
-abbrev pub Head : Type 0
-Head = ℕ × (ℕ × (ℕ × (ℕ × Counts)))
-
--- after the count of seals the line ends, or goes on with that of the retired
-abbrev pub sealed_end : (retiring : Bool) → ℕ
-sealed_end r = if r then comma else newline
-
-unfoldable pub retired_count : (retiring : Bool) → Format ℕ
-retired_count r = if r then number 32 newline else always 0
-
-unfoldable pub head_format : (retiring : Bool) → Format Head
-head_format r =
-    pair (number 8 comma) λ _. pair (number 64 comma) λ _. pair (number 64 comma) λ _. pair (number 64 comma)
-    λ _. pair (number 32 comma) λ _. pair (number 32 comma) λ _. pair (number 32 comma) λ _. pair (number 32 (sealed_end r)) λ _. retired_count r
-
-unfoldable pub retired_format : (retiring : Bool) (n : ℕ) → Format (List ℕ)
-retired_format r n = if r then after_literal retired_name (times n (number 32 newline)) else always []
-
--- the slots, then free, quarantine, sealed, retired
-abbrev pub Body : Type 0
-Body = List Slot × (List ℕ × (List ℕ × (List ℕ × List ℕ)))
-
-unfoldable pub body_format : Form → Counts → Format Body
-body_format f d =
-    pair (slots_format f.wide f.planar d.0)
-    λ _. after_literal free_name (pair (times d.1.0 (number 32 newline))
-    λ _. after_literal quarantine_name (pair (times d.1.1.0 (number 32 newline))
-    λ _. after_literal sealed_name (pair (times d.1.1.1.0 (number 64 newline))
-    λ _. retired_format f.retiring d.1.1.1.1)))
-
--- with `retired` or without, line 2, the width of writes and planes or data, and what follows: forms are told apart as the text goes on
-abbrev pub Parts : Type 0
-Parts = Bool × (Head × ((Bool × Bool) × Body))
-
-unfoldable pub page_format : Format Parts
-page_format =
-    pair (names heap_front retired_too no_retired) λ r. pair (head_format r)
-    λ d. pair slot_named λ n. body_format (form_of r n.0 n.1) d.1.1.1.1
-
-abbrev pub state_of : Head → Body → State
-state_of d b =
-    record {
-      tag = d.0;
-      since_gc = d.1.0;
-      reclaim_at = d.1.1.0;
-      live_bytes = d.1.1.1.0;
-      epoch = 0;
-      log = replicate 16 0;
-      slots = b.0;
-      free = b.1.0;
-      quarantine = b.1.1.0;
-      retired = b.1.1.1.1;
-      sealed = b.1.1.1.0;
-    }
-
-abbrev pub read_of : Parts → Form × State
-read_of p = (form_of p.0 p.1.1.0.0 p.1.1.0.1, state_of p.1.0 p.1.1.1)
-
-abbrev pub counts_of : State → Counts
-counts_of h = (length h.slots, (length h.free, (length h.quarantine, (length h.sealed, length h.retired))))
-
-abbrev pub head_of : State → Head
-head_of h = (h.tag, (h.since_gc, (h.reclaim_at, (h.live_bytes, counts_of h))))
-
-abbrev pub body_of : State → Body
-body_of h = (h.slots, (h.free, (h.quarantine, (h.sealed, h.retired))))
-
-abbrev pub saved : Form → State → Parts
-saved f h = (f.retiring, (head_of h, ((f.wide, f.planar), body_of h)))
-
-abbrev pub whole : {A : Type 0} → A × List ℕ → Option A
-whole {A} r = go r.1
-  where
-    go : List ℕ → Option A
-    go [] = some r.0
-    go (b ∷ t) = none
-
--- the form and the heap whose page a text is, if it is one's
-unfoldable pub read_page : List ℕ → Option (Form × State)
-read_page t = page_format.read t >>= λ r. whole r >>= λ p. some (read_of p)
 
 -- the heap that a page brings: from one without `retired`, free slots at the last generation move to the retired list, in free order
 abbrev pub moved : (retiring : Bool) → State → State

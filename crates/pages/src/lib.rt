@@ -11,7 +11,7 @@ ghost use Rattle.pages.specs.Page.{value_line, slot_line, numbers_line, page_tex
 ghost use Rattle.pages.specs.Inner.Columns.{slot, slots_in, head_fields};
 ghost use Rattle.word.specs.Result.{ok};
 ghost use Rattle.refusal.specs.Told.{told, answered, here, nothing};
-ghost use Rattle.pages.specs.Answer.{PageWritten};
+ghost use Rattle.pages.specs.Inner.PageWritten.{PageWritten};
 ghost use Rattle.std.proofs.lemmas.List.{map-id};
 ghost use mathlib.Core.Path.{sym};
 

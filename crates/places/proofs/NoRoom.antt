@@ -15,7 +15,7 @@ use Rattle.std.specs.Prelude.{Option as Maybe, Some, None, Ok, Err, unwrap_or, i
 use Rattle.word.proofs.NumLaws.{align_same, align-next}
 use Rattle.ty.specs.Types.{Ty, Ty.missing, Ty.int, Ty.physical, Ty.enum, Ty.real, Ty.array, Ty.fields, Ty.access, Ty.file, Ty.protected, Field, Field.field, Const, Const.plain, Const.other, Table, type_at, const_at, none as no_const}
 use Rattle.ty.specs.Words.{word_of, on_word, round_up, Word}
-use Rattle.ty.specs.Scalars.{elem_size, narrow, leaf_by, logic_leaf}
+use Rattle.ty.specs.Scalars.{scalar_size, elem_size, narrow, leaf_by, logic_leaf}
 use Rattle.ty.specs.Walks.{handles_by, handles_at, has_handles}
 use Rattle.layout.specs.Layout.{Lay, Dims, laid, on_ok, on_bytes, dims_of, under, used_by, placed, end_of, array_laid, array_of, record_of, layout_by, layout_at, layout_of}
 use Rattle.layout.specs.Offsets.{offsets_from, offsets_of, fields_of}
@@ -103,7 +103,7 @@ size-zero (Some n) s h e = let z = h n refl in absurd (omega arith)
 size-zero None s h e = e
 
 elem-room : (y : Ty) (n : ℕ) → elem_size y ≡ Some n → 0 < n
-unfolding elem_size
+unfolding elem_size scalar_size
 elem-room y n e = by y e
   where
     two : (b : Bool) (i j : ℕ) → 0 < i → 0 < j → if◌then◌else◌ b (Some i) (Some j) ≡ Some n → 0 < n
@@ -254,7 +254,7 @@ module _ (T : Table) (end : ℕ) (small : (c : ℕ) (b : List ℕ) → const_at 
 
     by-nothing : (t : ℕ) (d : List ℕ) → length d < 2 ^ 64 → (at : ℕ) → at ≤ end → (y : Ty) → type_at T.types t ≡ y → (a st q u : ℕ) → layout_by T (layout_at T m) t d y ≡ laid 0 a st q u → layout_of T t d ≡ laid 0 a st q u
         → if◌then◌else◌ (has_handles T.types t) (places_by T (places_at T end m) end t d at y) (some []) ≡ some []
-    unfolding layout_by places_by offsets_of
+    unfolding layout_by scalar_size places_by offsets_of
     by-nothing t d l at h missing ey a st q u e f = let z : ◌≡◌ {A = ℕ} 0 1 = cc in absurd (omega arith)
     by-nothing t d l at h (int lo hi) ey a st q u e f = let z : ◌≡◌ {A = ℕ} 8 0 = (laid-inj _ _ _ _ _ _ _ _ _ _ e).0 in absurd (omega arith)
     by-nothing t d l at h physical ey a st q u e f = let z : ◌≡◌ {A = ℕ} 8 0 = (laid-inj _ _ _ _ _ _ _ _ _ _ e).0 in absurd (omega arith)

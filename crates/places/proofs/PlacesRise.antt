@@ -16,7 +16,8 @@ use Rattle.std.specs.Prelude.{Some, None, Ok, Err, unwrap_or, if◌then◌else�
 use Rattle.ty.specs.Types.{Ty, Ty.missing, Ty.int, Ty.physical, Ty.enum, Ty.real, Ty.array, Ty.fields, Ty.access, Ty.file, Ty.protected, Field, Field.field, Const, Const.plain, Const.other, Table, type_at, const_at, none as no_const}
 use Rattle.ty.specs.Words.{on_word, word_of, round_up, Word}
 use Rattle.ty.specs.Scalars.{scalar_size, narrow, elem_size, logic_leaf}
-use Rattle.ty.specs.Walks.{desc_size, handles_at, has_handles}
+use Rattle.ty.specs.Walks.{handles_at, has_handles}
+use Rattle.ty.specs.DescSize.{desc_size}
 use Rattle.layout.specs.Layout.{Lay, laid, on_bytes, dims_of, under, used_by, placed, end_of, array_laid, array_of, record_of, scalar_laid, layout_by, layout_at, layout_of}
 use Rattle.layout.specs.Offsets.{offsets_from, offsets_of, fields_of}
 use Rattle.refusal.specs.declared.Refusal.TheVariants.{TooLarge}
@@ -190,7 +191,7 @@ module _ (T : Table) (end : ℕ) (small : ShortConstants T) where
 
     by_right : (t : ℕ) (d : List ℕ) (at : ℕ) (y : Ty) → type_at T.types t ≡ y → has_handles T.types t ≡ true → length d < 2 ^ 64 → (s a st q u : ℕ) → layout_by T (layout_at T 64) t d y ≡ laid s a st q u
         → Sits at (at + unwrap_or (elem_size y) s) (places_by T (places_at T end n) end t d at y)
-    unfolding places_by layout_by elem_size layout_of offsets_of array_of
+    unfolding places_by layout_by elem_size scalar_size layout_of offsets_of array_of
     by_right t d at missing ey h l s a st q u e = tt
     by_right t d at (int lo hi) ey h l s a st q u e = omega arith
     by_right t d at physical ey h l s a st q u e = omega arith
@@ -229,7 +230,7 @@ module _ (T : Table) (end : ℕ) (small : ShortConstants T) where
 
   -- without a layout there are no places
   unlaid-by : (next : Below) (t : ℕ) (d : List ℕ) (at : ℕ) (y : Ty) (l : Lay) → type_at T.types t ≡ y → layout_at T 65 t d ≡ l → ((s a st q u : ℕ) → l ≡ laid s a st q u → ⊥) → Sits at at (places_by T next end t d at y)
-  unfolding places_by layout_by layout_of
+  unfolding places_by layout_by scalar_size layout_of
   unlaid-by next t d at y l ey el f = by y ey
     where
       none_of : (x : Lay) (g : ℕ → ℕ → Places) → ((s a st q u : ℕ) → x ≡ laid s a st q u → ⊥) → Sits at at (if_laid x g)

@@ -6,7 +6,7 @@ use Rattle.text.specs.Text.{Bytes}
 use Rattle.word.specs.Le.{le, bytes}
 use Rattle.word.proofs.LeLaws.{length-bytes, le_bytes}
 use Rattle.planes.specs.Planes.{less, plus, lessened, summed}
-use Rattle.planes.specs.Inner.Words.{word_at, before}
+use Rattle.planes.specs.Words.{word_at, before}
 
 -- ---- bytes
 

@@ -3,7 +3,8 @@ use Rattle.std.proofs.Common.{◌≡◌, ℕ, zero, suc, ◌+◌, ◌-◌, ◌*�
 use Rattle.text.specs.Text.{Bytes}
 use Rattle.word.specs.Lists.{tabulate}
 use Rattle.planes.specs.Planes.{count, lessened, summed, rows, every, turned, planes, restored}
-use Rattle.planes.specs.Inner.Words.{plane_byte, plane}
+use Rattle.planes.specs.Inner.Words.{plane}
+use Rattle.planes.specs.Words.{plane_byte}
 use Rattle.planes.proofs.Turning.{turned-at, turned-past, length-turned, turned-back, bytes-turned}
 use Rattle.planes.proofs.Adding.{power, length-lessened, length-summed, bytes-lessened, bytes-summed, summed-lessened, lessened-summed, lessened-at, lessened-rest}
 

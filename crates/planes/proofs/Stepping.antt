@@ -7,7 +7,7 @@ use Rattle.word.specs.Put.{put}
 use Rattle.word.proofs.LeLaws.{length-bytes}
 use Rattle.word.proofs.PutLaws.{length-put, take_put, drop-put}
 use Rattle.planes.specs.Planes.{count, plus, summed, turned, restored}
-use Rattle.planes.specs.Inner.Words.{word_at}
+use Rattle.planes.specs.Words.{word_at}
 use Rattle.planes.specs.Inner.Steps.{Scattering, Summing}
 use Rattle.planes.proofs.Turning.{turned-is}
 use Rattle.planes.proofs.Adding.{power, fits}

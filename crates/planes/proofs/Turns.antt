@@ -7,12 +7,13 @@ use Rattle.word.specs.Lists.{tabulate}
 use Rattle.word.specs.Put.{put}
 use Rattle.word.proofs.LeLaws.{length-bytes}
 use Rattle.text.specs.Text.{hex}
-use Rattle.text.specs.Put.{Puts}
+use Rattle.text.specs.Inner.Puts.{Puts}
 use Rattle.text.proofs.Putting.{puts_none, puts-puts, puts-at, hex-append, puts-length, put-mid-put}
 use Rattle.text.proofs.Laws.{hex-length}
 use Rattle.word.proofs.ListLaws.{rest}
 use Rattle.planes.specs.Planes.{count, less, plus, rows, planes, turned, summed, restored}
-use Rattle.planes.specs.Inner.Words.{word_at, before, plane_byte, plane}
+use Rattle.planes.specs.Inner.Words.{plane}
+use Rattle.planes.specs.Words.{word_at, before, plane_byte}
 use Rattle.planes.specs.Inner.Steps.{Scattering, Summing}
 use Rattle.planes.proofs.Turning.{rows_snoc}
 use Rattle.planes.proofs.Laws.{planes-parts, tabulate-snoc}

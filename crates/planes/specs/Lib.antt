@@ -1,2 +1,3 @@
 pub mod Planes
+pub mod Words
 pub mod Inner

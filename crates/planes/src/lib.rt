@@ -6,9 +6,10 @@ ghost use Rattle.word.specs.Le.{bytes};
 ghost use Rattle.word.specs.Put.{put};
 ghost use Rattle.text.specs.Text.{hex};
 ghost use Rattle.text.specs.Inner.Answer.{hex_at};
-ghost use Rattle.text.specs.Put.{Puts};
+ghost use Rattle.text.specs.Inner.Puts.{Puts};
 ghost use Rattle.planes.specs.Planes.{count, planes, turned, summed, restored};
-ghost use Rattle.planes.specs.Inner.Words.{before, plane_byte, plane};
+ghost use Rattle.planes.specs.Inner.Words.{plane};
+ghost use Rattle.planes.specs.Words.{before, plane_byte};
 ghost use Rattle.planes.specs.Inner.Steps.{Scattering};
 
 use text::hex::Hex;

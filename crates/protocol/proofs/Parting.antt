@@ -12,7 +12,7 @@ use Rattle.std.proofs.lemmas.Bool.{ne_eqb}
 use Rattle.std.specs.Prelude.{Option, Some, None, Result, Ok, Err, true, false, slice_index_or}
 use Rattle.std.specs.List.{All}
 use Rattle.std.proofs.lemmas.List.Elements.{All-append}
-use Rattle.text.specs.Text.{read_decimal}
+use Rattle.text.specs.Reading.{read_decimal}
 use Rattle.text.specs.Inner.Answer.{value_answer}
 use Rattle.text.proofs.Laws.{decimal-back}
 use Rattle.text.proofs.Getting.{answer-none, decimal-found}

@@ -16,7 +16,7 @@ use Rattle.std.specs.Cmp.Lexicographic.{pointwise}
 use Rattle.std.specs.Prelude.{Option, Some, None, Result, Ok, Err, MatchOption, IfErr, slice_index_or}
 use Rattle.std.specs.Result.{IsErrAnd}
 use Rattle.std.proofs.lemmas.Bool.{true≢false}
-use Rattle.text.specs.Text.{hex_digit_of, byte_of, read_decimal}
+use Rattle.text.specs.Reading.{hex_digit_of, byte_of, read_decimal}
 use Rattle.word.proofs.Bools.{and-true, and-false}
 use Rattle.protocol.specs.declared.Fault.{Fault}
 use Rattle.protocol.specs.declared.Fault.TheVariants.{Bad}

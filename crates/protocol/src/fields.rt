@@ -2,7 +2,7 @@
 ghost use Rattle.std.specs.Prelude.{◌≡◌, ◌≢◌, ◌↔◌, ℕ, List, Option, Some, None, true, ◌*◌, ◌<◌, ◌≤◌, ◌^◌, ◌-◌, ◌∷◌, [], length, map, IfOk, IfErr, IfSome, MatchOption};
 ghost use Rattle.std.specs.List.{All};
 ghost use Rattle.std.specs.Str.{IsUtf8};
-ghost use Rattle.text.specs.Text.{hex_digit_of};
+ghost use Rattle.text.specs.Reading.{hex_digit_of};
 ghost use Rattle.protocol.specs.declared.Fault.TheVariants.{Bad};
 ghost use Rattle.protocol.specs.Inner.Lines.{field_of, rest_of, decimal_of, given_or, unfolded, or_bad, signed_of, dashed, script_of, option_of, bytes_of, followed, parts, rest_parts, cut, list_of, single_of, pair_of, typed, slot_of};
 

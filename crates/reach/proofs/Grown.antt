@@ -12,7 +12,8 @@ use native.Mathlib.Nat.{le_of_suc-le-suc, not-suc-le-zero, zero-add}
 use native.Mathlib.Decide.{ℕ_discrete}
 use native.Mathlib.Omega.{arith}
 use Rattle.reach.specs.Reach.{◌∈◌}
-use Rattle.reach.specs.Marking.{State, sum, Good, nothing, met, visit}
+use Rattle.reach.specs.Marking.{State, nothing, met, visit}
+use Rattle.reach.specs.Inner.Good.{sum, Good}
 
 -- ---- membership
 

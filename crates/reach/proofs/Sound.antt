@@ -11,7 +11,8 @@ use borrow.Author.Tests.{ltb-true, ltb-false}
 use native.Mathlib.Omega.{arith}
 use native.Mathlib.Decide.{dec_lt}
 use Rattle.reach.specs.Reach.{Graph, Starts, ◌∈◌, First, Next, Linked, Chain, last_of, LeadsTo, Reached, UntraceableFrom}
-use Rattle.reach.specs.Marking.{State, Good, nothing, visit, visit_maybe, follow, follow_all, pin_if, pin_all, seeded, drained, marking, or_done, or_stuck}
+use Rattle.reach.specs.Marking.{State, nothing, visit, visit_maybe, follow, follow_all, pin_if, pin_all, seeded, drained, marking, or_done, or_stuck}
+use Rattle.reach.specs.Inner.Good.{Good}
 use Rattle.reach.proofs.Grown.{Grown, ∈-get_or, ∈-index, good-nothing, good-room, grown-same, grown-then, grown-in, grown-all, grown-at, grown-length, visit-grown, visit-in}
 
 -- objects have slots below n

@@ -1,26 +1,13 @@
 -- How the collection finds what is reached, as a function that contracts can compute with: each object is marked and queued when it is first met, and the
 -- queue is gone through from the front. What is right stands in Reach.antt, and proofs/Sound.antt shows that the two agree.
-use Rattle.std.specs.Prelude.{ℕ, zero, suc, ◌+◌, ◌<◌, ◌≡◌, Bool, true, false, ◌⊎◌, List, [], ◌∷◌, ◌++◌, length, get_or, set, replicate, ltb, eqb}
+use Rattle.std.specs.Prelude.{ℕ, zero, suc, Bool, true, false, List, [], ◌∷◌, ◌++◌, length, get_or, set, replicate, ltb, eqb}
 use Rattle.std.proofs.Math.Option.{Option, none, some}
-use Rattle.reach.specs.Reach.{Graph, Starts, ◌∈◌}
+use Rattle.reach.specs.Reach.{Graph, Starts}
 
 -- a mark for each slot, 0 or 1, and the objects that are marked, in the order in which they were met
 pub record State : Type 0 where
   pub marks : List ℕ
   pub queue : List ℕ
-
--- the sum of a list
-unfoldable pub sum : List ℕ → ℕ
-sum [] = 0
-sum (x ∷ xs) = x + sum xs
-
--- a state of n slots that hangs together: the marks are 0 or 1, and the marked are the queued, each once
-pub record Good (n : ℕ) (s : State) : Type 0 where
-  pub size : length s.marks ≡ n
-  pub count : sum s.marks ≡ length s.queue
-  pub within : (i : ℕ) → i ∈ s.queue → i < n
-  pub queued : (i : ℕ) → i ∈ s.queue → get_or s.marks i 0 ≡ 1
-  pub bits : (i : ℕ) → i < n → (get_or s.marks i 0 ≡ 0) ⊎ ((get_or s.marks i 0 ≡ 1) × (i ∈ s.queue))
 
 abbrev pub nothing : ℕ → State
 nothing n = record { marks = replicate n 0; queue = [] }

@@ -8,9 +8,9 @@ use mathlib.Core.Path.{◌≡◌, refl, subst}
 use lib.Dec.{eqb, ltb, leb}
 use lib.ListN.{length, length-append}
 use Rattle.std.specs.Prelude.{if◌then◌else◌}
-use Rattle.word.specs.Result.{Result, ok, refused, number}
-use Rattle.text.specs.Text.{decimal, line}
-use Rattle.text.specs.Format.{All}
+use Rattle.word.specs.Result.{Result, ok, refused}
+use Rattle.word.specs.Inner.Number.{number}
+use Rattle.text.specs.Text.{decimal, line, All}
 use Rattle.text.proofs.Laws.{decimal-length}
 use Rattle.ty.specs.Types.{Table}
 use Rattle.heap.specs.Packing.{flat}

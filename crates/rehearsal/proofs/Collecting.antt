@@ -28,7 +28,8 @@ use Rattle.collection.specs.Swept.{swept, goes, dropped}
 use Rattle.heap.proofs.Keeping.{live_inside}
 use Rattle.collection.proofs.Dropping.{swept_slot}
 use Rattle.collection.proofs.SweptLaws.{swept-slot, swept-count, swept-sound, swept-tag, swept-free, swept-quarantine, swept-sealed, swept-since, swept-live}
-use Rattle.collection.specs.Collected.{found, graph, starts, swept_by, collected}
+use Rattle.collection.specs.Collected.{found, graph, starts}
+use Rattle.collection.specs.Collecting.{swept_by, collected}
 use Rattle.collection.proofs.Demand.{sized, found_ok}
 use Rattle.collection.specs.Shown.{shown}
 use Rattle.rehearsal.specs.Machine.{Object, sizes, look, shows, handle_of, shown_by, chains, from, Tells, Right, those, stuck, numbers, older, left, collects}

@@ -14,8 +14,9 @@ use Rattle.heap.specs.Calls.{new, alloc_from, resolve, write, recycle}
 use Rattle.object_door.specs.ObjectCalls.{allocating}
 use Rattle.reach.specs.Marking.{marking, drained, visit, follow}
 use Rattle.collection.specs.Swept.{swept, drop_unmarked, dropped, drop_slots, live_size}
-use Rattle.collection.specs.Collected.{collected}
-use Rattle.ty.specs.Walks.{handles_at, handles_by, desc_at, desc_by}
+use Rattle.collection.specs.Collecting.{collected}
+use Rattle.ty.specs.Walks.{handles_at, handles_by}
+use Rattle.ty.specs.DescSize.{desc_at, desc_by}
 use Rattle.trace.specs.Places.{handles_of, kind_places, object_places, handles_places, rising, words_at}
 use Rattle.rehearsal.specs.Lines.{Line, alloc, store, drop, line_text, lines_text}
 use Rattle.rehearsal.specs.Runs.{Figures, rehearsed, after, does, collecting, allocating as allocs, figures_line}

@@ -9,7 +9,8 @@ use Rattle.heap.specs.Calls.{Changed, on_slot, write, resolve, gc_due, new}
 use Rattle.object_door.specs.ObjectCalls.{allocating}
 use Rattle.collection.specs.Swept.{live_size}
 use Rattle.collection.specs.Shown.{shown}
-use Rattle.collection.specs.Collected.{graph, starts, collected}
+use Rattle.collection.specs.Collected.{graph, starts}
+use Rattle.collection.specs.Collecting.{collected}
 use Rattle.rehearsal.specs.Runs.{Told, World}
 
 -- the heap after a success

@@ -7,15 +7,17 @@ use mathlib.Core.Option as maybe
 use mathlib.Core.Option.{none}
 use mathlib.Core.Path.{◌≡◌, refl, sym, ◌∙◌, subst}
 use lib.ListN.{length, drop, length-drop}
-use Rattle.text.specs.Text.{give, ascii, comma, newline, digit_of, read_literal, read_field}
+use Rattle.text.specs.Text.{ascii, comma, newline, read_literal}
+use Rattle.text.specs.Reading.{give, digit_of, read_field}
 use Rattle.text.specs.Format.{number, pair}
 use Rattle.text.specs.Inner.Answer.{value_answer, literal_answer}
 use Rattle.std.specs.Prelude.{Option, Some, None}
 use Rattle.text.proofs.Getting.{answer-none, field_found, literal-found, literal-lost}
-use Rattle.script.specs.Script.{alloc_format}
+use Rattle.script.specs.Reading.{alloc_format}
 use Rattle.script.specs.Inner.Found.{AllocReads}
 use Rattle.script.specs.declared.AllocLine.{AllocLine}
-use Rattle.rehearsal.specs.Lines.{Line as Step, store_format, read_alloc, read_store, read_drop, read_line, is_text}
+use Rattle.rehearsal.specs.Lines.{Line as Step}
+use Rattle.rehearsal.specs.Reading.{store_format, read_alloc, read_store, read_drop, read_line, is_text}
 use Rattle.rehearsal.proofs.Reading.{line-shorter, text-nothing, text-bad, text-more}
 use Rattle.rehearsal_lines.specs.Inner.Found.{step_in, Reads, LineRead}
 use Rattle.rehearsal_lines.specs.declared.Line.{Line}

@@ -2,7 +2,7 @@
 #![tactic(auto)]
 
 ghost use Rattle.std.specs.Prelude.{◌≡◌, ◌≤◌, length, drop};
-ghost use Rattle.rehearsal.specs.Lines.{read_store, read_drop, read_line, is_text};
+ghost use Rattle.rehearsal.specs.Reading.{read_store, read_drop, read_line, is_text};
 ghost use Rattle.rehearsal_lines.specs.Inner.Found.{LineRead};
 
 use script::AllocLine;

@@ -11,7 +11,7 @@ use Rattle.word.specs.Put.{put}
 use Rattle.word.specs.Run.{run}
 use Rattle.word.proofs.PutLaws.{put_whole}
 use Rattle.text.specs.Text.{hex, newline}
-use Rattle.text.specs.Put.{Puts}
+use Rattle.text.specs.Inner.Puts.{Puts}
 use Rattle.text.specs.Inner.Answer.{hex_at}
 use Rattle.text.proofs.Laws.{hex-back, hex-length}
 use Rattle.heap.specs.Packing.{start_of}

@@ -11,7 +11,7 @@ use Rattle.text.proofs.Wrote.{Writes, writes-begin, writes-end}
 use Rattle.rehearsal.specs.Runs.{Figures, figures_line}
 use Rattle.rehearsal_steps.specs.declared.Going.{Going}
 use Rattle.rehearsal_steps.specs.Inner.Going.{ended}
-use Rattle.rehearsal_runs.specs.Runs.{figures_in, CanPut}
+use Rattle.rehearsal_runs.specs.Inner.Runs.{figures_in, CanPut}
 
 abbrev pub field : (n end : ℕ) → List ℕ
 field n end = decimal n ++ (end ∷ [])

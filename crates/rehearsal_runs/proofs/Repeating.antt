@@ -9,7 +9,8 @@ use Rattle.std.specs.Prelude.{None}
 use Rattle.word.specs.Run.{run}
 use Rattle.word.proofs.ListLaws.{drop-cons-one}
 use Rattle.text.specs.Text.{decimal}
-use Rattle.text.specs.Put.{Puts, put_text}
+use Rattle.text.specs.Put.{put_text}
+use Rattle.text.specs.Inner.Puts.{Puts}
 use Rattle.text.proofs.Putting.{puts-puts, puts_none, puts-length}
 use Rattle.ty.specs.Types.{Table}
 use Rattle.heap.specs.State.{State}
@@ -31,7 +32,8 @@ use Rattle.rehearsal_runs.proofs.Printing.{line-long}
 use Rattle.rehearsal_names.specs.Inner.Names.{entries, kept, named}
 use Rattle.rehearsal_steps.specs.declared.Going.{Going}
 use Rattle.rehearsal_steps.specs.Inner.Going.{ended, InOrder, Goes}
-use Rattle.rehearsal_runs.specs.Runs.{lines_of, run_of, Begun, LentRoom, figures_in, CanPut, memory_after, Rehearses}
+use Rattle.rehearsal_runs.specs.Runs.{lines_of, run_of, memory_after}
+use Rattle.rehearsal_runs.specs.Inner.Runs.{Begun, LentRoom, figures_in, CanPut, Rehearses}
 use Rattle.rehearsal_runs.proofs.Running.{Sizes as Same}
 
 -- ---- at the start

@@ -13,7 +13,8 @@ use Rattle.text.proofs.Laws.{none-not-some, some_inj, bind-some}
 use Rattle.ty.specs.Types.{Table}
 use Rattle.heap.specs.State.{State}
 use Rattle.heap.specs.Lent.{Lent, slot_count, pool_size}
-use Rattle.rehearsal.specs.Lines.{Line as Step, alloc, store, drop as drops, line_text, read_line, read_lines, is_read, is_text}
+use Rattle.rehearsal.specs.Lines.{Line as Step, alloc, store, drop as drops, line_text}
+use Rattle.rehearsal.specs.Reading.{read_line, read_lines, is_read, is_text}
 use Rattle.rehearsal.specs.Runs.{Run, World, unless, does, after, starting}
 use Rattle.rehearsal.specs.OnHeap.{heaped, fresh}
 use Rattle.rehearsal.proofs.Reading.{line-back, read-nothing, read-bad, read_more}
@@ -25,7 +26,8 @@ use Rattle.rehearsal_steps.specs.Inner.Going.{going_on, InOrder, Short, Cleared,
 use Rattle.rehearsal_steps.specs.Inner.Steps.{doing_in}
 use Rattle.rehearsal_steps.proofs.Placed.{not-ended}
 use Rattle.rehearsal_line.proofs.Leading.{led-line}
-use Rattle.rehearsal_runs.specs.Runs.{or_none, lines_of, run_of, Begun}
+use Rattle.rehearsal_runs.specs.Runs.{or_none, lines_of, run_of}
+use Rattle.rehearsal_runs.specs.Inner.Runs.{Begun}
 
 -- lists of the same lengths
 pub record Sizes (n₀ n₁ w₀ w₁ p₀ p₁ a₀ a₁ m₀ m₁ k₀ k₁ : List ℕ) : Type 0 where

@@ -14,7 +14,7 @@ use Rattle.refusal.specs.Told.{Reply}
 use Rattle.heap.specs.State.{State}
 use Rattle.heap.specs.Lent.{Lent, stored, view, slot_count, pool_size}
 use Rattle.heap.specs.Calls.{Changed}
-use Rattle.heap.specs.Done.{Tells}
+use Rattle.heap.specs.Inner.Tells.{Tells}
 use Rattle.heap.proofs.Storing.{view-stored}
 use Rattle.heap.proofs.Sound.{Sound}
 use Rattle.heap.proofs.Testing.{formed-tested}

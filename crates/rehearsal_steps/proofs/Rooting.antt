@@ -12,7 +12,8 @@ use Rattle.handle.proofs.ResolveLaws.{resolve-null}
 use Rattle.heap.specs.State.{State, slot_at, live}
 use Rattle.heap.specs.Calls.{resolve}
 use Rattle.reach.specs.Marking.{State as Marks, nothing, visit_maybe, follow, follow_all, drained, marking}
-use Rattle.collection.specs.Collected.{found, graph, starts, swept_by, collected}
+use Rattle.collection.specs.Collected.{found, graph, starts}
+use Rattle.collection.specs.Collecting.{swept_by, collected}
 use Rattle.rehearsal.specs.Runs.{Held as Name, handles}
 use Rattle.rehearsal_names.specs.Inner.Names.{kept}
 

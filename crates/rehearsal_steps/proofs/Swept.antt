@@ -19,16 +19,18 @@ use Rattle.ty.specs.Types.{Table}
 use Rattle.heap.specs.State.{State}
 use Rattle.heap.specs.Lent.{Lent, stored, view, slot_count, pool_size}
 use Rattle.heap.specs.Calls.{Changed, gc_due}
-use Rattle.heap.specs.Done.{Tells}
+use Rattle.heap.specs.Inner.Tells.{Tells}
 use Rattle.heap.proofs.Storing.{view-stored, slots-stored}
 use Rattle.heap.proofs.Testing.{formed-tested}
 use Rattle.heap_calls.specs.Pins.{rising_from}
 use Rattle.reach.specs.Marking.{State as Marks, marking}
 use Rattle.collection.specs.Swept.{live_size, swept}
 use Rattle.collection.specs.Shown.{shown}
-use Rattle.collection.specs.Collected.{graph, starts, swept_by, collected}
+use Rattle.collection.specs.Collected.{graph, starts}
+use Rattle.collection.specs.Collecting.{swept_by, collected}
 use Rattle.collection.proofs.SweptLaws.{swept-live}
-use Rattle.collect.specs.Collect.{collecting as collect_call, CanCollect}
+use Rattle.collect.specs.Collect.{collecting as collect_call}
+use Rattle.collect.specs.Inner.Finished.{CanCollect}
 use Rattle.rehearsal.specs.Runs.{handles, Run, World, collecting, swept as swept_run}
 use Rattle.rehearsal.specs.OnHeap.{heaped, collects_heap, left}
 use Rattle.rehearsal_names.specs.Inner.Names.{entries_in, named}

@@ -20,16 +20,18 @@ use Rattle.heap.specs.Lent.{Lent, lent, slot_count, pool_size}
 use Rattle.heap.specs.Sizes.{sizes_fit}
 use Rattle.heap.specs.declared.Heap.{Heap}
 use Rattle.heap.proofs.Sizes.{Sizes, sizes-tested}
-use Rattle.door.specs.HeapCalls.{Test, admitted, whether, zeros, scratch_after, Entered, outcome_of}
+use Rattle.door.specs.HeapCalls.{Test, admitted, whether, zeros, scratch_after, outcome_of}
+use Rattle.door.specs.Inner.Entered.{Entered}
 use Rattle.door.specs.HeapCalls.{Entry}
 use Rattle.door.specs.HeapCalls.{ready}
 use Rattle.door.proofs.Entering.{fails, passes, cleared-in, holding, whether-not, whether-ready}
 use Rattle.object_door.specs.ObjectCalls.{handed}
-use Rattle.rehearsal.specs.Lines.{is_text}
+use Rattle.rehearsal.specs.Reading.{is_text}
 use Rattle.rehearsal.specs.Machine.{plain}
 use Rattle.rehearsal.proofs.Theorem.{text-theorem}
 use Rattle.rehearsal_place.proofs.Answering.{apart}
-use Rattle.rehearsal_runs.specs.Runs.{lines_of, CanRehearse, memory_after, Rehearses}
+use Rattle.rehearsal_runs.specs.Runs.{lines_of, memory_after}
+use Rattle.rehearsal_runs.specs.Inner.Runs.{CanRehearse, Rehearses}
 use Rattle.rehearse_door.specs.Rehearse.{Given, table_in, plenty, roomy, rehearse_tests, figures_by, rehearse_call, PlainLines}
 
 -- ---- scratch

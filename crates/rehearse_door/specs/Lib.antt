@@ -1,1 +1,2 @@
 pub mod Rehearse
+pub mod Inner

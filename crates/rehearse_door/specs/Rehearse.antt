@@ -13,12 +13,11 @@ use Rattle.heap.specs.Sizes.{sizes_fit}
 use Rattle.door.specs.HeapCalls.{Test, test, admitted, whether, zeros, scratch_after, outcome_of}
 use Rattle.std.specs.Prelude.{Err}
 use Rattle.object_door.specs.ObjectCalls.{Handed, handed}
-use Rattle.rehearsal.specs.Lines.{is_text}
+use Rattle.rehearsal.specs.Reading.{is_text}
 use Rattle.rehearsal.specs.Runs.{figures_text}
 use Rattle.rehearsal.specs.Machine.{empty, Tells, Right, plain}
 use Rattle.rehearsal.specs.OnHeap.{heaped, fresh}
 use Rattle.rehearsal_runs.specs.Runs.{lines_of, memory_after}
-use Rattle.rehearsal_runs.specs.declared.Rehearsal.{Rehearsal}
 
 -- what is lent to be read: the type table, the lines, the thresholds
 pub record Given : Type 0 where
@@ -28,18 +27,6 @@ pub record Given : Type 0 where
   pub bytes : List ℕ
   pub text : List ℕ
   pub thresholds : List ℕ
-
--- the same as it lies in the code
-abbrev pub given : Rehearsal → Given
-given r =
-    record {
-      types = r.table.types.now;
-      fields = r.table.fields.now;
-      consts = r.table.consts.now;
-      bytes = r.table.bytes.now;
-      text = r.text.now;
-      thresholds = r.thresholds.now;
-    }
 
 abbrev pub table_in : Given → Table
 table_in g = table_of g.types g.fields g.consts g.bytes

@@ -4,9 +4,11 @@
 
 ghost use Rattle.std.specs.Prelude.{◌≡◌, [], ◌∷◌, length};
 ghost use Rattle.heap.specs.Lent.{lent};
-ghost use Rattle.door.specs.HeapCalls.{Entered, outcome_of};
+ghost use Rattle.door.specs.HeapCalls.{outcome_of};
+ghost use Rattle.door.specs.Inner.Entered.{Entered};
 ghost use Rattle.object_door.specs.ObjectCalls.{handed};
-ghost use Rattle.rehearse_door.specs.Rehearse.{given, rehearse_tests, rehearse_call, PlainLines};
+ghost use Rattle.rehearse_door.specs.Rehearse.{rehearse_tests, rehearse_call, PlainLines};
+ghost use Rattle.rehearse_door.specs.Inner.Given.{given};
 
 use door::Done;
 use heap::Heap;

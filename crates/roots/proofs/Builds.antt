@@ -10,7 +10,7 @@ use native.Mathlib.Nat.{suc-mul}
 use native.Mathlib.Decide.{ℕ_discrete, dec_lt}
 use lib.ListN.{length, get_or, set, length-set}
 use lib.Seq.{get_or-set_same, get_or-set_other}
-use Rattle.word.specs.Bit.{bit}
+use Rattle.word.specs.Inner.Bit.{bit}
 use Rattle.word.proofs.BitLaws.{bit-of-zero}
 use Rattle.flow.specs.Function.{first_at}
 use Rattle.flow.specs.Dataflow.{back, killed, gen, kill}

@@ -9,7 +9,7 @@ use native.Mathlib.Decide.{ℕ_discrete}
 use lib.Dec.{eqb}
 use lib.ListN.{length, get_or, replicate, length-replicate}
 use borrow.Author.Tests.{eq-eqb, eqb-true}
-use Rattle.word.specs.Bit.{bit}
+use Rattle.word.specs.Inner.Bit.{bit}
 use Rattle.word.proofs.BitLaws.{bit-of-zero}
 use Rattle.word.proofs.Bools.{or_cases, or_left, or_right}
 use Rattle.rows.specs.Inner.Row.{bit_in}

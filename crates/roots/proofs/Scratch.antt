@@ -15,7 +15,7 @@ use lib.Dec.{eqb, ltb, leb}
 use lib.Bits.{bit_or}
 use borrow.Author.Tests.{eq-eqb, ne_eqb, lt-ltb, le-ltb, le-leb, lt-leb}
 use Rattle.std.specs.Prelude.{if◌then◌else◌}
-use Rattle.word.specs.Bit.{bit}
+use Rattle.word.specs.Inner.Bit.{bit}
 use Rattle.word.proofs.BitLaws.{bit-or, bit-of-zero}
 use Rattle.word.specs.Lists.{tabulate}
 use Rattle.word.proofs.ListLaws.{length-tabulate, get_d_tabulate}

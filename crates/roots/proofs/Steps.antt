@@ -8,7 +8,7 @@ use native.Mathlib.Omega.{arith}
 use native.Mathlib.Decide.{dec_lt}
 use lib.ListN.{length, get_or, take, drop, length-drop, length-take}
 use lib.Seq.{take-take, get_or-take, get_or-drop, ext_get_or}
-use Rattle.word.specs.Bit.{bit}
+use Rattle.word.specs.Inner.Bit.{bit}
 use Rattle.rows.specs.Inner.Row.{bit_in, part, Part, Stepped, listed}
 use Rattle.roots.proofs.Growth.{stepped-more}
 use Rattle.roots.specs.Inner.Columns.{Outside, cell, set_bits}

@@ -9,8 +9,9 @@ use native.Mathlib.Omega.{arith}
 use lib.Dec.{eqb, ltb}
 use lib.ListN.{length, get_or-eq_default}
 use borrow.Author.Tests.{lt-ltb, le-ltb}
-use Rattle.word.specs.Bit.{bit}
-use Rattle.word.specs.Ones.{keep, passing, ones_from}
+use Rattle.word.specs.Inner.Bit.{bit}
+use Rattle.word.specs.Ones.{keep, passing}
+use Rattle.word.specs.Inner.Ones.{ones_from}
 use Rattle.word.proofs.BitLaws.{bit-of-zero}
 use Rattle.word.proofs.OnesLaws.{passing-append}
 use Rattle.rows.specs.Inner.Row.{bit_in, listed}

@@ -4,7 +4,8 @@ use Rattle.std.specs.List.{sum_by}
 use Rattle.std.specs.Int.Count.{ones}
 use Rattle.std.proofs.Math.Seq.{take-length}
 use Rattle.std.proofs.lemmas.List.Sums.{sum_by_more}
-use Rattle.word.specs.Ones.{passing, ones_from}
+use Rattle.word.specs.Ones.{passing}
+use Rattle.word.specs.Inner.Ones.{ones_from}
 use Rattle.word.proofs.OnesLaws.{length-ones}
 use Rattle.rows.specs.Inner.Row.{bit_in, listed}
 use Rattle.rows.proofs.RowLaws.{passing-word}

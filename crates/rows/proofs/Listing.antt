@@ -10,7 +10,8 @@ use native.Mathlib.Omega.{arith}
 use lib.Bits.{bit_and}
 use lib.Count.{count_trailing_zeros}
 use lib.ListN.{length, get_or, set, get_or-eq_default}
-use Rattle.word.specs.Ones.{keep, passing, ones_from}
+use Rattle.word.specs.Ones.{keep, passing}
+use Rattle.word.specs.Inner.Ones.{ones_from}
 use Rattle.word.specs.Put.{put}
 use Rattle.word.proofs.OnesLaws.{passing-append, passing-ones, ones_none, ones-next, less-one-digit}
 use Rattle.word.proofs.PutLaws.{put-none, copy-turn}

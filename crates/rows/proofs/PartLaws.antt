@@ -7,7 +7,7 @@ use Prim.Native.Nat.{ℕ, zero, ◌+◌, ◌-◌, ◌*◌, ◌/◌, ◌%◌, ◌
 use native.Mathlib.Omega.{arith}
 use lib.ListN.{length, get_or, get_or-eq_default}
 use lib.Seq.{get_or-take, get_or-drop}
-use Rattle.word.specs.Bit.{bit}
+use Rattle.word.specs.Inner.Bit.{bit}
 use Rattle.word.proofs.BitLaws.{bit-of-zero, order}
 use Rattle.rows.specs.Inner.Row.{bit_in, part, Part}
 use Rattle.rows.proofs.RowLaws.{bit_in-mid}

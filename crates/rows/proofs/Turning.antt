@@ -13,7 +13,8 @@ use lib.Dec.{eqb}
 use lib.ListN.{length, get_or, set, length-append, length-set, get_or-eq_default}
 use lib.Pow.{pow-lt, shr_lt, shr_le, shr-shr}
 use Rattle.std.specs.Prelude.{Option, Some, None, is_some}
-use Rattle.word.specs.Ones.{keep, passing, ones_from}
+use Rattle.word.specs.Ones.{keep, passing}
+use Rattle.word.specs.Inner.Ones.{ones_from}
 use Rattle.word.specs.Put.{put}
 use Rattle.word.proofs.OnesLaws.{ones_none}
 use Rattle.word.proofs.PutLaws.{put-none, put-put}

@@ -14,8 +14,9 @@ use Rattle.refusal.specs.declared.Refusal.TheVariants.{BrokenHeap, Page, Scratch
 use Rattle.refusal.specs.Told.{Reply}
 use Rattle.heap.specs.Lent.{Lent, view, slot_count, pool_size}
 use Rattle.heap.specs.WellFormed.{well_formed}
-use Rattle.heap.specs.Done.{Tells}
-use Rattle.door.specs.HeapCalls.{test, admitted, enough, heap_tests, zeros, scratch_after, Entered, outcome_of}
+use Rattle.heap.specs.Inner.Tells.{Tells}
+use Rattle.door.specs.HeapCalls.{test, admitted, enough, heap_tests, zeros, scratch_after, outcome_of}
+use Rattle.door.specs.Inner.Entered.{Entered}
 use Rattle.door.specs.HeapCalls.{Entry}
 use Rattle.std.specs.Prelude.{Err}
 use Rattle.door.specs.HeapCalls.{ready}

@@ -14,7 +14,7 @@ use Rattle.refusal.proofs.Numbers.{told-once}
 use Rattle.heap.specs.Lent.{Lent, pool_size}
 use Rattle.heap.specs.WellFormed.{well_formed}
 use Rattle.heap.specs.Calls.{Changed}
-use Rattle.heap.specs.Done.{Does, Tells}
+use Rattle.heap.specs.Inner.Tells.{Does, Tells}
 use Rattle.script.specs.Script.{silent}
 use Rattle.script.proofs.Refusing.{Numbered}
 use Rattle.run_door.specs.Inner.Steps.{end_of}

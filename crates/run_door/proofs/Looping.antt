@@ -13,7 +13,7 @@ use Rattle.heap.specs.State.{State}
 use Rattle.heap.specs.Lent.{Lent, view, stored, slot_count, pool_size}
 use Rattle.heap.specs.WellFormed.{well_formed}
 use Rattle.heap.specs.Calls.{Changed}
-use Rattle.heap.specs.Done.{Does, Tells}
+use Rattle.heap.specs.Inner.Tells.{Does, Tells}
 use Rattle.heap.specs.Inner.Loans.{SameLoans}
 use Rattle.heap.specs.declared.view_mut.ViewMut.{ViewMut}
 use Rattle.heap.proofs.Testing.{formed-tested}

@@ -8,7 +8,7 @@ use native.Mathlib.Omega.{arith}
 use lib.ListN.{length, get_or, drop, length-drop}
 use Rattle.std.specs.Prelude as found
 use Rattle.word.proofs.ListLaws.{drop-cons-one}
-use Rattle.text.specs.Text.{give}
+use Rattle.text.specs.Reading.{give}
 use Rattle.word.specs.Result.{Result, ok, refused}
 use Rattle.refusal.specs.Told.{nothing}
 use Rattle.refusal.specs.declared.Refusal.TheVariants.{Page}
@@ -18,7 +18,8 @@ use Rattle.heap.specs.State.{State}
 use Rattle.heap.specs.Lent.{Lent, view, slot_count, pool_size}
 use Rattle.heap.specs.Calls.{Changed, refuse, on_slot, resolve, take_slot, free, recycle, seal as sealed}
 use Rattle.heap.specs.WellFormed.{well_formed}
-use Rattle.heap.specs.Done.{Leaves, Tells}
+use Rattle.heap.specs.Done.{Leaves}
+use Rattle.heap.specs.Inner.Tells.{Tells}
 use Rattle.heap.proofs.Storing.{view-stored}
 use Rattle.heap.proofs.Sound.{Sound}
 use Rattle.heap.proofs.Keeping.{take-sound}
@@ -29,7 +30,9 @@ use Rattle.heap_calls.specs.Pins.{rising_from, rising}
 use Rattle.heap_edit.proofs.Soundness.{resolved_live, seal-sound}
 use Rattle.object_door.specs.ObjectCalls.{recycling}
 use Rattle.object_door.proofs.Objects.{allocating-sound}
-use Rattle.script.specs.Script.{Call, alloc, take, seal, recycle as recycles, line_does, read_call, doing, and_then, run_script}
+use Rattle.script.specs.Script.{line_does, doing, and_then, run_script}
+use Rattle.script.specs.Calls.{Call, alloc, take, seal, recycle as recycles}
+use Rattle.script.specs.Reading.{read_call}
 use Rattle.script.specs.Inner.Found.{call_at, DataThere, Reads, LineRead, call_in, DataIn}
 use Rattle.script.specs.declared.AllocLine.{AllocLine}
 use Rattle.script.specs.declared.Line.{Line}

@@ -7,7 +7,8 @@ use native.Mathlib.Omega.{arith}
 use lib.ListN.{length, take}
 use lib.Seq.{take-length}
 use Rattle.word.proofs.PutLaws.{mid-put}
-use Rattle.text.specs.Put.{Puts, put_text}
+use Rattle.text.specs.Put.{put_text}
+use Rattle.text.specs.Inner.Puts.{Puts}
 use Rattle.text.specs.Inner.Answer.{hex_at}
 use Rattle.refusal.specs.Told.{here, nothing}
 use Rattle.refusal.specs.declared.Refusal.{Refusal}
@@ -16,7 +17,7 @@ use Rattle.refusal.specs.Told.{Reply}
 use Rattle.std.specs.Prelude.{Result as Outcome, Ok, Err}
 use Rattle.heap.specs.Lent.{Lent, view, slot_count, pool_size}
 use Rattle.heap.specs.Calls.{refuse, alloc_from}
-use Rattle.heap.specs.Done.{Tells}
+use Rattle.heap.specs.Inner.Tells.{Tells}
 use Rattle.heap_calls.proofs.Allocating.{alloc-none}
 use Rattle.heap_calls.specs.Inner.Kinds.{kind_number, kind_of}
 use Rattle.heap_calls.specs.declared.kind.ObjectKind.{ObjectKind}

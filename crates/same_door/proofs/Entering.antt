@@ -9,7 +9,8 @@ use Rattle.refusal.specs.declared.Refusal.{Refusal}
 use Rattle.refusal.specs.declared.Refusal.TheVariants.{BrokenHeap, Scratch}
 use Rattle.heap.specs.Lent.{Lent, slot_count}
 use Rattle.heap.specs.WellFormed.{well_formed}
-use Rattle.door.specs.HeapCalls.{Test, test, admitted, enough, heap_tests, zeros, scratch_after, Entered}
+use Rattle.door.specs.HeapCalls.{Test, test, admitted, enough, heap_tests, zeros, scratch_after}
+use Rattle.door.specs.Inner.Entered.{Entered}
 use Rattle.door.specs.HeapCalls.{Entry}
 use Rattle.std.specs.Prelude.{Err}
 use Rattle.std.specs.Prelude.{Ok}

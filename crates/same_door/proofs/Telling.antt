@@ -20,7 +20,8 @@ use Rattle.ty.specs.Types.{Table}
 use Rattle.ty.specs.Check.{table_good}
 use Rattle.heap.specs.State.{State}
 use Rattle.heap.specs.Lent.{Lent, view, slot_count}
-use Rattle.door.specs.HeapCalls.{test, enough, zeros, Entered, asked_of}
+use Rattle.door.specs.HeapCalls.{test, enough, zeros, asked_of}
+use Rattle.door.specs.Inner.Entered.{Entered}
 use Rattle.door.specs.HeapCalls.{Entry}
 use Rattle.door.specs.HeapCalls.{ready}
 use Rattle.door.proofs.Entering.{and-holds, and-fails, and-more, holding, cleared-in, ask-refused, ask-ready, zeros-again, zeros-room}

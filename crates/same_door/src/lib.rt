@@ -5,7 +5,8 @@
 ghost use Rattle.std.specs.Prelude.{◌≡◌, [], ◌∷◌, IfOk};
 ghost use Rattle.heap.specs.Lent.{lent};
 ghost use Rattle.heap.specs.Inner.Seen.{seen};
-ghost use Rattle.door.specs.HeapCalls.{Entered, entry_of, asked_of};
+ghost use Rattle.door.specs.HeapCalls.{asked_of};
+ghost use Rattle.door.specs.Inner.Entered.{Entered, entry_of};
 ghost use Rattle.saves.specs.Saves.{save_of, words_of, save_tests, same_number, order_number, same_call, order_call};
 ghost use Rattle.saves.specs.Right.{RightSame, RightOrder};
 ghost use Rattle.same_door.specs.Inner.Numbers.{Compares};

@@ -8,7 +8,8 @@ use Rattle.word.specs.Le.{le}
 use Rattle.word.specs.Result.{ok, refused}
 use Rattle.handle.specs.Handle.{packed, tag_of, index_of, generation_of, resolve_by}
 use Rattle.ty.specs.Types.{Table}
-use Rattle.ty.specs.Walks.{desc_by, desc_at, handles_by, handles_at}
+use Rattle.ty.specs.Walks.{handles_by, handles_at}
+use Rattle.ty.specs.DescSize.{desc_by, desc_at}
 use Rattle.trace.specs.Places.{object_places, rising, handles_places, kind_places, shown_places}
 use Rattle.reach.specs.Marking.{visit, follow, drained, marking}
 use Rattle.heap.specs.State.{Slot, State}

@@ -5,12 +5,15 @@ use mathlib.Core.Option as maybe
 use mathlib.Core.Option.{none}
 use mathlib.Core.Path.{◌≡◌, refl, sym, ap, ◌∙◌, subst}
 use lib.ListN.{length, drop}
-use Rattle.text.specs.Text.{give, ascii, comma, digit_of, read_hex, read_literal, read_field}
+use Rattle.text.specs.Text.{ascii, comma, read_literal}
+use Rattle.text.specs.Reading.{give, digit_of, read_hex, read_field}
 use Rattle.text.specs.Format.{number, bytes_line, pair}
 use Rattle.text.specs.Inner.Answer.{value_answer, literal_answer, hex_answer, hex_at}
 use Rattle.std.specs.Prelude.{Option, Some, None, is_some}
 use Rattle.text.proofs.Getting.{answer-none, field_found, hex-found, hex-missing, literal-found, literal-lost}
-use Rattle.script.specs.Script.{Call, alloc, take, seal, recycle, alloc_format, read_alloc, read_take, read_call, begins_call}
+use Rattle.script.specs.Script.{begins_call}
+use Rattle.script.specs.Calls.{Call, alloc, take, seal, recycle}
+use Rattle.script.specs.Reading.{alloc_format, read_alloc, read_take, read_call}
 use Rattle.script.specs.Inner.Found.{AllocReads, Reads, LineRead}
 use Rattle.script.specs.declared.AllocLine.{AllocLine}
 use Rattle.script.specs.declared.Line.{Line}

@@ -7,11 +7,11 @@ use lib.Dec.{eqb, ltb}
 use lib.ListN.{length, length-append}
 use native.Mathlib.Omega.{arith}
 use borrow.Author.Tests.{ne_eqb, ltb-true, ltb-false}
-use Rattle.text.specs.Text.{ascii, newline, comma, decimal, hex, line}
-use Rattle.text.specs.Format.{All}
+use Rattle.text.specs.Text.{ascii, newline, comma, decimal, hex, line, All}
 use Rattle.text.proofs.Laws.{decimal-one, decimal-more, hex-digit-above}
 use Rattle.heap.specs.Packing.{flat}
-use Rattle.script.specs.Script.{Call, alloc, take, seal, recycle, call_line, onto, lines, ends_line}
+use Rattle.script.specs.Script.{onto, lines, ends_line}
+use Rattle.script.specs.Calls.{Call, alloc, take, seal, recycle, call_line}
 
 -- ---- lines and text
 

@@ -7,12 +7,14 @@ use mathlib.Core.Path.{◌≡◌, refl, sym, ap, ◌∙◌}
 use lib.ListN.{length, length-append}
 use native.Mathlib.Omega.{arith}
 use Rattle.word.specs.Result.{Result, ok, refused}
-use Rattle.text.specs.Text.{give}
+use Rattle.text.specs.Reading.{give}
 use Rattle.text.proofs.Laws.{none-not-some}
 use Rattle.heap.specs.State.{State}
 use Rattle.heap.specs.Packing.{flat}
 use Rattle.heap.specs.Calls.{Changed, refuse, done}
-use Rattle.script.specs.Script.{Call, call_line, read_call, call_of, lines, first_is_call, is_call, begins_call, ends_line, doing, line_does, unless, and_then, run_lines, run_script}
+use Rattle.script.specs.Script.{lines, first_is_call, is_call, begins_call, ends_line, doing, line_does, unless, and_then, run_lines, run_script}
+use Rattle.script.specs.Calls.{Call, call_line}
+use Rattle.script.specs.Reading.{read_call, call_of}
 use Rattle.script.proofs.Reading.{call-forth, call_back, call-of-line, line-of-call}
 use Rattle.script.proofs.Lining.{call_long, lines-flat, lines-some, lines-append, lines-call}
 

@@ -1,2 +1,4 @@
 pub mod Script
+pub mod Calls
+pub mod Reading
 pub mod Inner

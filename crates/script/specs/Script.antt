@@ -1,66 +1,13 @@
--- A script (01, "Page" and "What the host is told"): calls as lines of text, and what running them does to a heap.
-use Rattle.std.specs.Prelude.{ℕ, ◌^◌, ◌<◌, Bool, true, false, List, [], ◌∷◌, eqb, if◌then◌else◌}
+-- A script (01, "Page" and "What the host is told"): lines of text, and what running them does to a heap.
+use Rattle.std.specs.Prelude.{ℕ, Bool, true, false, List, [], ◌∷◌, eqb, if◌then◌else◌}
 use Rattle.std.proofs.Math.Option.{Option, none, some}
 use Rattle.word.specs.Result.{Result, ok, refused}
-use Rattle.text.specs.Text.{Reader, give, ◌>>=◌, ascii, newline, comma, decimal, hex, line, Bytes, read_literal}
-use Rattle.text.specs.Format.{Format, number, bytes_line, pair}
+use Rattle.text.specs.Text.{newline}
 use Rattle.heap.specs.State.{State}
 use Rattle.heap.specs.Calls.{Changed, refuse, done, free, seal as sealed}
 use Rattle.object_door.specs.ObjectCalls.{allocating, recycling}
-
--- ---- calls as lines: call, number, kind, bytes
-
-pub data Call : Type 0 where
-  alloc : (type kind : ℕ) → (bytes : List ℕ) → Call
-  take : (handle : ℕ) → Call
-  seal : Call
-  recycle : Call
-
--- the line of a call; fields that it does not use are 0 or empty
-unfoldable pub call_line : Call → List ℕ
-call_line (alloc t k bs) = line (ascii "alloc" ∷ decimal t ∷ decimal k ∷ hex bs ∷ [])
-call_line (take x) = line (ascii "take" ∷ decimal x ∷ decimal 0 ∷ [] ∷ [])
-call_line seal = line (ascii "seal" ∷ decimal 0 ∷ decimal 0 ∷ [] ∷ [])
-call_line recycle = line (ascii "recycle" ∷ decimal 0 ∷ decimal 0 ∷ [] ∷ [])
-
--- numbers within their widths: a type 32 bits, a kind 8, a handle 64; data are bytes
-abbrev pub Within : Call → Type 0
-Within (alloc t k bs) = (t < 2 ^ 32) × ((k < 2 ^ 8) × Bytes bs)
-Within (take x) = x < 2 ^ 64
-Within seal = Unit
-Within recycle = Unit
-
--- ---- reading a call, with the rest of the text
-
-unfoldable pub alloc_format : Format (ℕ × (ℕ × List ℕ))
-alloc_format = pair (number 32 comma) λ _. pair (number 8 comma) λ _. bytes_line
-
-unfoldable pub read_alloc : Reader Call
-read_alloc t = alloc_format.read t >>= λ r. give (alloc r.0.0 r.0.1.0 r.0.1.1) r.1
-
-unfoldable pub read_take : Reader Call
-read_take t = (number 64 comma).read t >>= λ r. read_literal (ascii "0,\n") r.1 >>= λ u. give (take r.0) u
-
--- after a name its fields are read; without it, something else
-abbrev pub named : Option (List ℕ) → Reader Call → Option (Call × List ℕ) → Option (Call × List ℕ)
-named none fields other = other
-named (some t) fields other = fields t
-
-unfoldable pub read_call : Reader Call
-read_call t =
-    named (read_literal (ascii "alloc,") t) read_alloc
-    (named (read_literal (ascii "take,") t) read_take
-    (named (read_literal (ascii "seal,0,0,\n") t) (give seal)
-    (named (read_literal (ascii "recycle,0,0,\n") t) (give recycle) none)))
-
--- a call with nothing after it
-abbrev pub alone : Call × List ℕ → Option Call
-alone (c, []) = some c
-alone (c, b ∷ t) = none
-
--- the call whose line this is, if it is one's
-unfoldable pub call_of : List ℕ → Option Call
-call_of l = read_call l >>= alone
+use Rattle.script.specs.Calls.{Call, alloc, take, seal, recycle}
+use Rattle.script.specs.Reading.{call_of}
 
 -- ---- lines
 
@@ -127,5 +74,6 @@ unfoldable pub run_lines : (S P : ℕ) → List (List ℕ) → State → Changed
 run_lines S P [] h = done tt h
 run_lines S P (l ∷ ls) h = and_then (line_does S P (call_of l) h) (run_lines S P ls)
 
+-- a whole script
 unfoldable pub run_script : (S P : ℕ) → (text : List ℕ) → State → Changed Unit
 run_script S P t h = run_lines S P (lines t) h

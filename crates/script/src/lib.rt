@@ -2,7 +2,8 @@
 #![tactic(auto)]
 
 ghost use Rattle.std.specs.Prelude.{◌≡◌, ◌≤◌, length, drop};
-ghost use Rattle.script.specs.Script.{alloc_format, read_take, read_call, begins_call};
+ghost use Rattle.script.specs.Script.{begins_call};
+ghost use Rattle.script.specs.Reading.{alloc_format, read_take, read_call};
 ghost use Rattle.script.specs.Inner.Found.{LineRead, AllocRead};
 
 // A line `alloc`: type, kind, and data that stands in hexadecimal from `from` on.

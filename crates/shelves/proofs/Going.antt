@@ -18,7 +18,8 @@ use Rattle.shelves.specs.declared.Next.{Next}
 use Rattle.shelves.specs.declared.Next.TheVariants.{Still, Whole, Passed}
 use Rattle.shelves.specs.declared.Shelf.{Shelf}
 use Rattle.shelves.specs.Shelf.{whole, shown}
-use Rattle.shelves.specs.Inner.Steps.{left_next, printed, text_left, Good, GoodNext, most_next, Takes, Answers, Goes}
+use Rattle.shelves.specs.Inner.Steps.{left_next, GoodNext, most_next, Takes, Answers}
+use Rattle.shelves.specs.Steps.{printed, text_left, Good, Goes}
 
 shown-page : (n : ℕ) (held : List ℕ) → n ≤ 32768 → page_figures (take n held) ≡ shown (whole (take n held))
 unfolding shown

@@ -20,7 +20,8 @@ use Rattle.shelves.specs.declared.At.TheVariants.{Line, Page as InPage, Passing,
 use Rattle.shelves.specs.declared.Next.{Next}
 use Rattle.shelves.specs.declared.Next.TheVariants.{Still, Whole, Passed}
 use Rattle.shelves.specs.Shelf.{LengthLine, no_length, length_line, Page, whole, cut_off, by_bytes, by_line, pages_in, shown, answers_in}
-use Rattle.shelves.specs.Inner.Steps.{passed_over, left_at, left_next, GoodAt, Begins, Reads, Takes, Due}
+use Rattle.shelves.specs.Inner.Steps.{left_next, Begins, Reads, Takes, Due}
+use Rattle.shelves.specs.Steps.{passed_over, left_at, GoodAt}
 use Rattle.shelves.proofs.Lengths.{line-none, line-end, line_low, line-high, line-long, line-spare, line-digit}
 
 abbrev answers : List Page → List (Result Figures)

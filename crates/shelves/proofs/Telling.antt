@@ -12,7 +12,7 @@ use Rattle.std.specs.Prelude.{if◌then◌else◌}
 use Rattle.word.specs.Result.{Result, ok, refused}
 use Rattle.word.proofs.PutLaws.{take_put}
 use Rattle.text.specs.Text.{ascii}
-use Rattle.text.specs.Put.{Puts}
+use Rattle.text.specs.Inner.Puts.{Puts}
 use Rattle.text.specs.Inner.Wrote.{Wrote}
 use Rattle.text.specs.declared.output.Out.{Out}
 use Rattle.text.proofs.Putting.{puts-puts}
@@ -25,7 +25,8 @@ use Rattle.shelves.specs.declared.At.{At}
 use Rattle.shelves.specs.declared.At.TheVariants.{Line, Page as InPage, Passing, Over}
 use Rattle.shelves.specs.declared.Shelf.{Shelf}
 use Rattle.shelves.specs.Shelf.{length_line, cut_off, by_line, pages_in, shown, answers_in, answers_of, answer_line, answer_lines, accepted, names_line, last_line, shelf_text}
-use Rattle.shelves.specs.Inner.Steps.{left_at, printed, text_left, GoodAt, Good, most_at, Due, After, Answers, Begun, Ends, is_cut_off}
+use Rattle.shelves.specs.Inner.Steps.{Due, After, Answers, is_cut_off}
+use Rattle.shelves.specs.Steps.{left_at, printed, text_left, GoodAt, Good, most_at, Begun, Ends}
 use Rattle.shelves.proofs.Taking.{bytes-short, over-short}
 
 -- one page more: a refused one adds zeros

@@ -1,3 +1,4 @@
 -- A shelf of pages.
 pub mod Shelf
+pub mod Steps
 pub mod Inner

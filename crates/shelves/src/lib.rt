@@ -4,7 +4,8 @@
 
 ghost use Rattle.std.specs.Prelude.{◌≡◌, ◌||◌, List, ℕ, ◌+◌, ◌*◌, ◌≤◌, length, min, eqb, ltb};
 ghost use Rattle.figures.specs.Inner.Counting.{line_of, Small};
-ghost use Rattle.shelves.specs.Inner.Steps.{GoodAt, Good, Begins, Reads, Takes, Due, After, Answers, Goes, SamePage, Begun, Ends, is_over, is_cut_off};
+ghost use Rattle.shelves.specs.Inner.Steps.{Begins, Reads, Takes, Due, After, Answers, SamePage, is_over, is_cut_off};
+ghost use Rattle.shelves.specs.Steps.{GoodAt, Good, Goes, Begun, Ends};
 
 use figures::{Figures, Memory};
 use text::output::Out;

@@ -1,5 +1,5 @@
 // A run through a shelf and the memory that it owns.
-ghost use Rattle.shelves.specs.Inner.Steps.{Good};
+ghost use Rattle.shelves.specs.Steps.{Good};
 ghost use Rattle.shelves.specs.Inner.Props.{good_prop};
 
 use crate::Shelf;

@@ -1,17 +1,11 @@
 -- The ways out of `slot_handles`. Assumes nothing.
 use Prim.Native.Nat.{ℕ, ◌+◌, ◌-◌, ◌*◌, ◌/◌, ◌≤◌, ◌<◌}
-use mathlib.Core.Path.{◌≡◌, refl, sym, ap, ◌∙◌, subst}
-use mathlib.Core.Bool.{Bool, true, false}
-use mathlib.Core.List.{List, [], ◌∷◌}
-use native.Mathlib.Omega.{arith}
-use lib.ListN.{length, get_or}
 use Rattle.word.specs.Run.{run}
 use Rattle.word.proofs.RunLaws.{run-get, first-get}
-use Rattle.refusal.specs.Told.{told, nothing}
+use Rattle.refusal.specs.Told.{told, nothing, Reply}
 use Rattle.refusal.specs.declared.Answer.{Answer}
 use Rattle.refusal.specs.declared.Refusal.{Refusal}
 use Rattle.refusal.specs.declared.Refusal.TheVariants.{NothingThere, TypeTable}
-use Rattle.refusal.specs.Told.{Reply}
 use Rattle.std.specs.Prelude.{Err}
 use Rattle.handle.specs.Inner.Columns.{live_in}
 use Rattle.handle.proofs.ResolveLaws.{live-beyond, live-not, live-there}
@@ -33,12 +27,16 @@ use Rattle.mark.specs.Inner.Graph.{Fit, graph_in, shown_in}
 use Rattle.mark.specs.Inner.Objects.{Laid, laid, laid_in}
 use Rattle.mark.specs.declared.objects.Objects.{Objects}
 use Rattle.mark.proofs.Formed.{formed-fit, formed-graph}
-use Rattle.door.specs.HeapCalls.{test, heap_tests, Entered, asked}
-use Rattle.door.specs.HeapCalls.{Entry}
-use Rattle.door.specs.HeapCalls.{ready}
+use Rattle.door.specs.HeapCalls.{test, heap_tests, asked, Entry, ready}
 use Rattle.door.proofs.Entering.{and-holds, and-fails, and-more, ask-refused, ask-ready, whether-not, whether-ready}
 use Rattle.slot_door.specs.Inner.Objects.{shown_of}
 use Rattle.slot_door.specs.SlotHandles.{slot_handles, slot_tests, slot_call, slot_out}
+use Rattle.door.specs.Inner.Entered.{Entered}
+use mathlib.Core.Path.{◌≡◌, refl, sym, ap, ◌∙◌, subst}
+use mathlib.Core.Bool.{Bool, true, false}
+use mathlib.Core.List.{List, [], ◌∷◌}
+use native.Mathlib.Omega.{arith}
+use lib.ListN.{length, get_or}
 
 -- ---- a slot in use
 

@@ -1,23 +1,13 @@
 -- The ways out of `traceable`. Assumes nothing.
 use Prim.Native.Nat.{ℕ, suc, ◌+◌, ◌-◌, ◌*◌, ◌/◌, ◌≤◌, ◌<◌}
-use mathlib.Core.Path.{◌≡◌, refl, sym, ap, ◌∙◌}
-use mathlib.Core.Bool.{Bool, true, false}
-use mathlib.Core.List.{List, [], ◌∷◌, map}
-use mathlib.Core.Option.{Option, none, some}
-use native.Mathlib.Omega.{arith}
-use lib.Dec.{eqb, leb}
-use lib.ListN.{length, get_or}
-use borrow.Author.Tests.{eq-eqb, ne_eqb, lt-ltb, le-ltb}
 use Rattle.word.proofs.ListLaws.{length-tabulate, get_d_tabulate}
 use Rattle.word.proofs.RunLaws.{run-get}
-use Rattle.refusal.specs.Told.{number_of, refused_by, told, answered, nothing}
+use Rattle.refusal.specs.Told.{number_of, refused_by, told, answered, nothing, Reply}
 use Rattle.refusal.specs.declared.Answer.{Answer}
 use Rattle.refusal.specs.declared.Refusal.{Refusal}
 use Rattle.refusal.specs.declared.Refusal.TheVariants.{Untraceable}
 use Rattle.refusal.proofs.Numbers.{told-once}
-use Rattle.refusal.specs.Told.{Reply}
-use Rattle.std.specs.Prelude.{Ok, Err, if◌then◌else◌}
-use Rattle.std.specs.Prelude.{Option as Outcome}
+use Rattle.std.specs.Prelude.{Ok, Err, if◌then◌else◌, Option as Outcome}
 use Rattle.word.specs.Result.{ok, refused}
 use Rattle.ty.specs.Types.{Table}
 use Rattle.ty.specs.View.{table_of, lent as table_in}
@@ -30,14 +20,21 @@ use Rattle.heap.specs.declared.view.View.{View}
 use Rattle.traced.specs.Listing.{listing}
 use Rattle.traced.specs.Inner.Lists.{Lists}
 use Rattle.collection.specs.Shown.{shown}
-use Rattle.door.specs.HeapCalls.{Entered, asked, asked_of, scratch_after, zeros}
-use Rattle.door.specs.HeapCalls.{Entry}
-use Rattle.door.specs.HeapCalls.{ready}
+use Rattle.door.specs.HeapCalls.{asked, asked_of, scratch_after, zeros, Entry, ready}
 use Rattle.door.proofs.Entering.{whether-not, whether-ready, cleared-in}
 use Rattle.slot_door.specs.SlotHandles.{slot_tests}
 use Rattle.slot_door.specs.Traceable.{traced, fits_table, first_failing, misfit, misfit_told, trace_call}
 use Rattle.slot_door.specs.Inner.Misfit.{misfit_in}
 use Rattle.slot_door.proofs.SlotCalls.{fit-of}
+use Rattle.door.specs.Inner.Entered.{Entered}
+use mathlib.Core.Path.{◌≡◌, refl, sym, ap, ◌∙◌}
+use mathlib.Core.Bool.{Bool, true, false}
+use mathlib.Core.List.{List, [], ◌∷◌, map}
+use mathlib.Core.Option.{Option, none, some}
+use native.Mathlib.Omega.{arith}
+use lib.Dec.{eqb, leb}
+use lib.ListN.{length, get_or}
+use borrow.Author.Tests.{eq-eqb, ne_eqb, lt-ltb, le-ltb}
 
 -- ---- a slot
 

@@ -8,11 +8,12 @@ ghost use Rattle.traced.specs.Listing.{listing};
 ghost use Rattle.traced.specs.Inner.Lists.{Lists};
 ghost use Rattle.heap.specs.Lent.{lent};
 ghost use Rattle.heap.specs.Inner.Seen.{seen, state};
-ghost use Rattle.door.specs.HeapCalls.{Entered, entry_of, asked};
+ghost use Rattle.door.specs.HeapCalls.{asked};
 ghost use Rattle.slot_door.specs.SlotHandles.{slot_handles, slot_tests, slot_call, slot_out};
 ghost use Rattle.slot_door.specs.Traceable.{fits_table, misfit, trace_call};
 ghost use Rattle.slot_door.specs.Inner.Misfit.{misfit_in};
 ghost use Rattle.slot_door.specs.Inner.Objects.{shown_of};
+ghost use Rattle.door.specs.Inner.Entered.{Entered, entry_of};
 
 use handle::Slots;
 use heap::Heap;

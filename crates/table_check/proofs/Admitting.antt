@@ -9,7 +9,7 @@ use Rattle.word.specs.Result.{ok, refused}
 use Rattle.refusal.specs.Told.{number_of}
 use Rattle.refusal.specs.declared.Refusal.{Refusal}
 use Rattle.refusal.specs.declared.Refusal.TheVariants.{TypeTable, Page}
-use Rattle.tables.specs.Table.{read_table}
+use Rattle.tables.specs.Reading.{read_table}
 use Rattle.tables.specs.Lists.{good}
 use Rattle.table_check.specs.Verdict.{verdict}
 use Rattle.table_check.specs.Inner.Parsing.{table_of, Sectioned}

@@ -11,13 +11,14 @@ use lib.Seq.{drop-cons, take-append-le, take-take, length-take-le, take_all}
 use native.Mathlib.Omega.{arith}
 use native.Mathlib.Nat.{zero-add}
 use Rattle.word.proofs.PutLaws.{put_all, take_put, mid-put, length-put}
-use Rattle.text.specs.Text.{give}
+use Rattle.text.specs.Reading.{give}
 use Rattle.text.specs.Format.{read_all, pair, times, after_literal}
 use Rattle.text.specs.Put.{put_text}
 use Rattle.text.specs.Inner.Answer.{hex_at}
 use Rattle.text.proofs.Laws.{times-right}
 use Rattle.ty.specs.Check.{table_good}
-use Rattle.tables.specs.Table.{Row, Named, most64, most32, type_names, field_names, constant_names, row_format, rows_format, counts_format, bytes_format, table_format, read_table}
+use Rattle.tables.specs.Table.{Row, Named, most64, most32, type_names, field_names, constant_names}
+use Rattle.tables.specs.Reading.{row_format, rows_format, counts_format, bytes_format, table_format, read_table}
 use Rattle.tables.specs.Lists.{numbers_in, good}
 use Rattle.tables.proofs.Laws.{row-right}
 use Rattle.tables.proofs.Rowing.{numbers-size}

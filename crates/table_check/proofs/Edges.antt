@@ -7,13 +7,16 @@ use mathlib.Core.Logic.{◌⊎◌, inl, inr}
 use mathlib.Core.Path.{◌≡◌, sym, ap, ◌∙◌, subst}
 use lib.ListN.{length, drop, length-append, length-drop, drop_of_length-le}
 use native.Mathlib.Omega.{arith}
-use Rattle.text.specs.Text.{give, read_field, read_literal, read_hex, hex, newline, Bytes}
-use Rattle.text.specs.Format.{Right, pair, after_literal, bytes_line}
+use Rattle.text.specs.Text.{read_literal, hex, newline, Bytes}
+use Rattle.text.specs.Reading.{give, read_field, read_hex}
+use Rattle.text.specs.Format.{pair, after_literal, bytes_line}
+use Rattle.text.specs.Inner.Right.{Right}
 use Rattle.text.specs.Inner.Answer.{value_answer, hex_answer, hex_at}
 use Rattle.std.specs.Prelude.{Option, Some, None}
 use Rattle.text.proofs.Laws.{hex-back, hex-length}
 use Rattle.text.proofs.Getting.{suffix, answer-some, answer-none, hex-found, hex-missing}
-use Rattle.tables.specs.Table.{up_to, count_names, bytes_name, Counts, counts_format, bytes_format}
+use Rattle.tables.specs.Table.{count_names, bytes_name}
+use Rattle.tables.specs.Reading.{up_to, Counts, counts_format, bytes_format}
 use Rattle.tables.proofs.Laws.{num, last}
 use Rattle.table_check.specs.Inner.Edges.{CountsFound, CountsGot, BytesFound, BytesGot}
 use Rattle.table_check.specs.declared.CountsRead.{CountsRead}

@@ -9,15 +9,18 @@ use native.Mathlib.Omega.{arith}
 use Rattle.std.proofs.lemmas.Nat.{pow_pos}
 use native.Mathlib.Numerals.{add-one}
 use native.Mathlib.Nat.{mul-le-mul_left, mul-suc}
-use Rattle.text.specs.Text.{give, read_field, read_literal}
-use Rattle.text.specs.Format.{read_all, pair, times, after_literal, All}
+use Rattle.text.specs.Text.{read_literal, All}
+use Rattle.text.specs.Reading.{give, read_field}
+use Rattle.text.specs.Format.{read_all, pair, times, after_literal}
 use Rattle.text.specs.Inner.Answer.{value_answer}
-use Rattle.text.specs.Put.{put_text, Puts}
+use Rattle.text.specs.Put.{put_text}
+use Rattle.text.specs.Inner.Puts.{Puts}
 use Rattle.std.specs.Prelude.{Option, Some, None}
 use Rattle.text.proofs.Laws.{none-not-some, some_inj, times-right}
 use Rattle.text.proofs.Getting.{suffix, answer-some, answer-none}
 use Rattle.text.proofs.Putting.{puts-puts, puts-byte, puts-at, puts_none}
-use Rattle.tables.specs.Table.{Row, name_text, up_to, read_name, name_format, row_format, rows_format}
+use Rattle.tables.specs.Table.{Row, name_text}
+use Rattle.tables.specs.Reading.{up_to, read_name, name_format, row_format, rows_format}
 use Rattle.tables.specs.Lists.{numbers_in, names_in}
 use Rattle.tables.specs.Inner.Answer.{GotAll, Got}
 use Rattle.tables.proofs.Laws.{num}

@@ -2,7 +2,7 @@
 #![tactic(auto)]
 
 ghost use Rattle.std.specs.Prelude.{◌≡◌, ◌+◌, ◌-◌, ◌*◌, ◌^◌, ◌≤◌, ◌<◌, length, replicate};
-ghost use Rattle.text.specs.Text.{read_field};
+ghost use Rattle.text.specs.Reading.{read_field};
 ghost use Rattle.text.specs.Put.{put_text};
 ghost use Rattle.tables.specs.Inner.Answer.{Got};
 ghost use Rattle.tables.specs.Lists.{good};

@@ -6,7 +6,7 @@ use lib.ListN.{length}
 use native.Mathlib.Omega.{arith}
 use native.Mathlib.Nat.{zero-add}
 use Rattle.word.proofs.PutLaws.{put-put, length-put}
-use Rattle.text.specs.Text.{give}
+use Rattle.text.specs.Reading.{give}
 use Rattle.text.specs.Put.{put_text}
 use Rattle.tables.specs.Table.{Row, most64, most32}
 use Rattle.tables.specs.Lists.{names_in, all_names}

@@ -5,12 +5,14 @@ use mathlib.Core.Option.{none}
 use mathlib.Core.Path.{◌≡◌, refl, sym, ap, ◌∙◌}
 use lib.ListN.{length, take, drop, length-append}
 use native.Mathlib.Omega.{arith}
-use Rattle.text.specs.Text.{give, read_field}
+use Rattle.text.specs.Reading.{give, read_field}
 use Rattle.text.specs.Format.{read_all}
-use Rattle.text.specs.Put.{put_text, Puts}
+use Rattle.text.specs.Put.{put_text}
+use Rattle.text.specs.Inner.Puts.{Puts}
 use Rattle.text.proofs.Laws.{none-not-some}
 use Rattle.text.proofs.Putting.{puts-puts, puts-at, puts_none}
-use Rattle.tables.specs.Table.{Row, name_text, read_name, row_format}
+use Rattle.tables.specs.Table.{Row, name_text}
+use Rattle.tables.specs.Reading.{read_name, row_format}
 use Rattle.tables.specs.Lists.{names_in}
 use Rattle.tables.proofs.Endings.{Gathering, gather-begin, gather-next, gather-lost, gather-done, gather-prefix}
 use Rattle.tables.proofs.Naming.{NameFound, name-part}

@@ -7,7 +7,8 @@ use Prim.Native.Nat.{ℕ, suc}
 use native.Mathlib.Omega.{arith}
 use Rattle.std.specs.Prelude.{if◌then◌else◌}
 use Rattle.word.specs.Result.{Result, ok, refused}
-use Rattle.tables.specs.Table.{Named, read_table}
+use Rattle.tables.specs.Table.{Named}
+use Rattle.tables.specs.Reading.{read_table}
 use Rattle.tables.specs.Lists.{good}
 use Rattle.table_check.specs.Verdict.{verdict}
 use Rattle.table_reader.specs.declared.TableRead.{TableRead}

@@ -3,7 +3,8 @@ use Rattle.std.specs.Prelude.{ℕ, List, [], ◌∷◌, Bool, ◌&&◌, leb, len
 use Rattle.text.specs.Put.{put_text}
 use Rattle.word.specs.Result.{Result, ok, refused}
 use Rattle.refusal.specs.Told.{refused_by}
-use Rattle.tables.specs.Table.{Named, read_table}
+use Rattle.tables.specs.Table.{Named}
+use Rattle.tables.specs.Reading.{read_table}
 use Rattle.tables.specs.Lists.{numbers_in, all_names}
 use Rattle.table_check.specs.Verdict.{verdict}
 use Rattle.table_reader.specs.declared.TableRead.{TableRead}

@@ -3,7 +3,7 @@
 
 ghost use Rattle.std.specs.Prelude.{◌≡◌, ◌+◌, ◌-◌, ◌*◌, ◌≤◌, ◌<◌, length, if◌then◌else◌};
 ghost use Rattle.refusal.specs.declared.Refusal.TheVariants.{ShortList};
-ghost use Rattle.text.specs.Text.{read_field};
+ghost use Rattle.text.specs.Reading.{read_field};
 ghost use Rattle.text.specs.Put.{put_text};
 ghost use Rattle.tables.specs.Inner.Answer.{Got};
 ghost use Rattle.tables.specs.Lists.{numbers_in, names_in, all_names};

@@ -7,12 +7,13 @@ use lib.ListN.{length, take, drop, length-append}
 use native.Mathlib.Omega.{arith}
 use native.Mathlib.Numerals.{add-one}
 use native.Mathlib.Nat.{mul-le-mul_left, mul-suc}
-use Rattle.text.specs.Text.{give}
+use Rattle.text.specs.Reading.{give}
 use Rattle.text.specs.Format.{read_all}
-use Rattle.text.specs.Put.{Puts}
+use Rattle.text.specs.Inner.Puts.{Puts}
 use Rattle.text.proofs.Laws.{none-not-some}
 use Rattle.text.proofs.Putting.{puts-puts, puts-at, puts_none}
-use Rattle.tables.specs.Table.{read_name, field, row_line}
+use Rattle.tables.specs.Table.{field, row_line}
+use Rattle.tables.specs.Reading.{read_name}
 use Rattle.tables.specs.Lists.{rows_of}
 use Rattle.tables.specs.Inner.Answer.{names_at, RowsReady}
 use Rattle.tables.proofs.Endings.{Gathering, gather-begin, gather-next, gather-lost, gather-done, gather-prefix}

@@ -8,15 +8,17 @@ use lib.ListN.{length, take, drop, length-drop, take-append-drop}
 use lib.Seq.{take_at, drop_at, length-take-le}
 use native.Mathlib.Omega.{arith}
 use native.Mathlib.Nat.{mul-suc}
-use Rattle.text.specs.Text.{give, ◌>>=◌, Bytes}
-use Rattle.text.specs.Format.{Right, pair, times, All}
-use Rattle.text.proofs.Laws.{bind-some, some_inj, pair-right, times-right}
-use Rattle.pages.specs.Page.{whole}
+use Rattle.text.specs.Text.{Bytes, All}
+use Rattle.text.specs.Reading.{give, ◌>>=◌}
+use Rattle.text.specs.Format.{pair, times}
+use Rattle.text.proofs.Laws.{bind-some, some_inj}
+use Rattle.pages.specs.Reading.{whole}
 use Rattle.pages.proofs.Laws.{whole-some}
 use Rattle.ty.specs.Check.{table_good}
-use Rattle.tables.specs.Table.{Row, Named, most64, most32, Plain, RowWithin, Within, name_text, name_format}
-use Rattle.tables.specs.Lists.{numbers_in, names_in, all_names, Names, names_format, rows_of, with_names, named_in}
-use Rattle.tables.proofs.Laws.{name-right}
+use Rattle.tables.specs.Table.{Row, Named, most64, most32, Plain, RowWithin, Within, name_text}
+use Rattle.tables.specs.Reading.{name_format, names_format, named_in}
+use Rattle.tables.specs.Lists.{numbers_in, names_in, all_names, Names, rows_of, with_names}
+use Rattle.tables.proofs.NamedLists.{names-right}
 use Rattle.tables.proofs.Rowing.{numbers-size}
 use Rattle.table_writer.proofs.Wholes.{rows-count, types-whole, fields-whole, constants-whole, counts-small}
 
@@ -44,13 +46,6 @@ names-plain : (k most : ℕ) (rows : List Row) → All (RowWithin k most) rows �
 unfolding names_of
 names-plain k most [] a = tt
 names-plain k most (r ∷ rows) a = (a.0.1, names-plain k most rows a.1)
-
-abbrev Names-good : (t f c : ℕ) → Names → Type 0
-Names-good t f c n = (All Plain n.0 × (length n.0 ≡ t)) × ((All Plain n.1.0 × (length n.1.0 ≡ f)) × (All Plain n.1.1 × (length n.1.1 ≡ c)))
-
-names-right : (t f c : ℕ) → Right (names_format t f c) (Names-good t f c)
-unfolding names_format
-names-right t f c = pair-right (times-right t name-right) λ _. pair-right (times-right f name-right) λ _. times-right c name-right
 
 module _ (d : Named) (w : Within d) where
   abbrev theirs : Names

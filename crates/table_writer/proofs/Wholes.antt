@@ -12,24 +12,26 @@ use lib.Seq.{drop-cons}
 use native.Mathlib.Omega.{arith}
 use native.Mathlib.Nat.{mul-suc, zero-add}
 use borrow.Author.Tests.{leb-true, eqb-true}
-use Rattle.text.specs.Text.{give, ◌>>=◌, decimal, hex, line, newline, comma}
+use Rattle.text.specs.Text.{decimal, hex, line, newline, comma}
+use Rattle.text.specs.Reading.{give, ◌>>=◌}
 use Rattle.text.specs.Format.{read_all, pair, times}
-use Rattle.text.specs.Put.{Puts}
+use Rattle.text.specs.Inner.Puts.{Puts}
 use Rattle.text.proofs.Laws.{times-right, hex-length}
-use Rattle.pages.specs.Page.{whole}
-use Rattle.tables.specs.Table.{read_name, field, name_text, name_format, row_line, count_names, type_names, field_names, constant_names, bytes_name, counts_line, table_text}
+use Rattle.pages.specs.Reading.{whole}
+use Rattle.tables.specs.Table.{field, name_text, row_line, count_names, type_names, field_names, constant_names, bytes_name, counts_line, table_text}
+use Rattle.tables.specs.Reading.{read_name, name_format, names_format, named_in}
 use Rattle.word.specs.Result.{ok}
 use Rattle.word.proofs.Bools.{and_both}
 use Rattle.ty.specs.Check.{all_of, table_good}
 use Rattle.refusal.specs.Told.{told}
 use Rattle.refusal.specs.declared.Refusal.TheVariants.{ShortList, TypeTable, Page}
 use Rattle.std.specs.Prelude.{Ok, Err}
-use Rattle.tables.specs.Lists.{Names, names_format, rows_of, with_names, named_in}
+use Rattle.tables.specs.Lists.{Names, rows_of, with_names}
 use Rattle.tables.specs.Inner.Answer.{GotAll, names_at}
 use Rattle.tables.proofs.Laws.{name-right}
 use Rattle.tables.proofs.Rowing.{flat_append}
-use Rattle.table_writer.specs.Inner.Parts.{NamesFound, NamesGot, named, rest_length, Ready}
-use Rattle.table_writer.specs.Writing.{table_in, writing, leaving, TableWritten}
+use Rattle.table_writer.specs.Inner.Parts.{NamesFound, NamesGot, named, rest_length, Ready, TableWritten}
+use Rattle.table_writer.specs.Writing.{table_in, writing, leaving}
 use Rattle.table_writer.specs.declared.NamesRead.{NamesRead}
 use Rattle.table_writer.proofs.RowsPut.{names-are}
 

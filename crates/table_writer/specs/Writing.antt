@@ -1,14 +1,12 @@
 -- What writing a table answers and leaves: names that are not one line of plain text for each type, field and constant 17, a table that 01 refuses 10, an output too
 -- short 7. A refusal leaves the output as it was.
-use Rattle.std.specs.Prelude.{ℕ, List, ◌≡◌, if◌then◌else◌}
+use Rattle.std.specs.Prelude.{ℕ, List, if◌then◌else◌}
 use Rattle.std.proofs.Math.Option.{none, some}
 use Rattle.word.specs.Result.{Result, ok, refused}
-use Rattle.refusal.specs.Told.{told, answered, here, nothing}
-use Rattle.refusal.specs.Told.{Reply}
 use Rattle.ty.specs.Check.{table_good}
 use Rattle.pages.specs.Answer.{text_answer, text_out}
 use Rattle.tables.specs.Table.{Named, table_text}
-use Rattle.tables.specs.Lists.{named_in}
+use Rattle.tables.specs.Reading.{named_in}
 
 -- the table that lies in lent lists, or what it is refused for
 unfoldable pub table_in : (types fields constants bytes names : List ℕ) → Result Named
@@ -24,7 +22,3 @@ writing (ok d) out = text_answer (table_text d) out
 unfoldable pub leaving : Result Named → (out : List ℕ) → List ℕ
 leaving (refused n) out = out
 leaving (ok d) out = text_out (table_text d) out
-
-pub record TableWritten (t : Result Named) (before after : List ℕ) (r : Reply) : Type 0 where
-  pub answer : told r ≡ answered here nothing (writing t before)
-  pub out : after ≡ leaving t before

@@ -8,8 +8,8 @@ ghost use Rattle.text.specs.Text.{decimal, hex};
 ghost use Rattle.tables.specs.Table.{field, row_line, counts_line, count_names, bytes_name, table_text};
 ghost use Rattle.tables.specs.Lists.{rows_of};
 ghost use Rattle.tables.specs.Inner.Answer.{names_at, RowsReady};
-ghost use Rattle.table_writer.specs.Inner.Parts.{NamesGot, named, rest_length, Ready};
-ghost use Rattle.table_writer.specs.Writing.{table_in, TableWritten};
+ghost use Rattle.table_writer.specs.Inner.Parts.{NamesGot, named, rest_length, Ready, TableWritten};
+ghost use Rattle.table_writer.specs.Writing.{table_in};
 
 use pages::Listed;
 use refusal::{Refusal, Reply};

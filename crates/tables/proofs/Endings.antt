@@ -1,5 +1,13 @@
 -- What a reader leaves, for any right format; and values read one after another, for any reader. Assumes nothing.
 use Prim.Native.Nat.{ℕ, ◌+◌, ◌-◌, ◌≤◌, ◌<◌}
+use Rattle.text.specs.Format.{Format, read_all}
+use Rattle.text.proofs.Laws.{none-not-some, some_inj}
+use Rattle.text.proofs.Getting.{suffix}
+use Rattle.std.specs.Prelude.{Option, Some, None}
+use Rattle.page_parser.proofs.Reading.{all_none, all-some, all_done}
+use Rattle.tables.specs.Inner.Answer.{ending, GotAll, Got}
+use Rattle.text.specs.Reading.{give, ◌>>=◌, Reader}
+use Rattle.text.specs.Inner.Right.{Right}
 use mathlib.Core.List.{List, [], ◌∷◌, ◌++◌, append_assoc, append-nil}
 use mathlib.Core.Option as maybe
 use mathlib.Core.Option.{none, some}
@@ -7,13 +15,6 @@ use mathlib.Core.Path.{◌≡◌, refl, sym, ap, ◌∙◌, subst}
 use lib.ListN.{length, drop, length-drop, length-append}
 use native.Mathlib.Omega.{arith}
 use native.Mathlib.Nat.{sub-zero}
-use Rattle.text.specs.Text.{give, ◌>>=◌, Reader}
-use Rattle.text.specs.Format.{Format, Right, read_all}
-use Rattle.text.proofs.Laws.{none-not-some, some_inj}
-use Rattle.text.proofs.Getting.{suffix}
-use Rattle.std.specs.Prelude.{Option, Some, None}
-use Rattle.page_parser.proofs.Reading.{all_none, all-some, all_done}
-use Rattle.tables.specs.Inner.Answer.{ending, GotAll, Got}
 
 contradiction : ◌≡◌ {A = ℕ} 0 1 → ⊥
 contradiction z = omega arith

@@ -2,3 +2,4 @@ pub mod Laws
 pub mod Endings
 pub mod Naming
 pub mod Rowing
+pub mod NamedLists

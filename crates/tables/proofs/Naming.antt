@@ -9,9 +9,10 @@ use lib.Seq.{take-append_seam}
 use native.Mathlib.Omega.{arith}
 use borrow.Author.Tests.{le-leb, lt-leb, eq-eqb, ne_eqb}
 use Rattle.word.proofs.ListLaws.{drop-cons-one}
-use Rattle.text.specs.Text.{give, ◌>>=◌}
+use Rattle.text.specs.Reading.{give, ◌>>=◌}
 use Rattle.std.specs.Prelude.{Option, Some, None}
-use Rattle.tables.specs.Table.{plain, Plain, name_text, name_format, read_name}
+use Rattle.tables.specs.Table.{plain, Plain, name_text}
+use Rattle.tables.specs.Reading.{name_format, read_name}
 use Rattle.tables.proofs.Laws.{name-right}
 use Rattle.tables.proofs.Endings.{found}
 use Rattle.tables.specs.Inner.Answer.{ending}

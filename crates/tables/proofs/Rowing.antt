@@ -6,9 +6,8 @@ use lib.ListN.{length, take, drop, get_or, length-append}
 use lib.Seq.{drop-drop, take_all, take-length}
 use native.Mathlib.Omega.{arith}
 use native.Mathlib.Nat.{mul-suc}
-use Rattle.text.specs.Text.{decimal, comma}
-use Rattle.text.specs.Format.{All}
-use Rattle.text.specs.Put.{Puts}
+use Rattle.text.specs.Text.{decimal, comma, All}
+use Rattle.text.specs.Inner.Puts.{Puts}
 use Rattle.text.proofs.Laws.{decimal-length}
 use Rattle.text.proofs.Putting.{puts-at, puts_none}
 use Rattle.pages.proofs.Writing.{flat-more-length, flat-room, puts-more}

@@ -1,4 +1,5 @@
 -- A type table as text.
 pub mod Table
 pub mod Lists
+pub mod Reading
 pub mod Inner

@@ -1,13 +1,9 @@
 -- A table in the lists that are lent: the numbers of its lines one after the other, and its names as lines, those of the types first, then the fields', then the
 -- constants'.
-use Rattle.std.specs.Prelude.{ℕ, ◌/◌, Bool, length, take, drop}
+use Rattle.std.specs.Prelude.{ℕ, Bool, take, drop}
 use mathlib.Core.List.{List, [], ◌∷◌, ◌++◌, flat_map}
-use Rattle.std.proofs.Math.Option.{Option, some}
-use Rattle.text.specs.Text.{◌>>=◌}
-use Rattle.text.specs.Format.{Format, pair, times}
-use Rattle.pages.specs.Page.{whole}
 use Rattle.ty.specs.Check.{table_good}
-use Rattle.tables.specs.Table.{Row, Named, name_text, name_format}
+use Rattle.tables.specs.Table.{Row, Named, name_text}
 
 unfoldable pub numbers_in : List Row → List ℕ
 numbers_in rows = flat_map (λ r. r.0) rows
@@ -26,9 +22,6 @@ good d = table_good (numbers_in d.types) (numbers_in d.fields) (numbers_in d.con
 abbrev pub Names : Type 0
 Names = List (List ℕ) × (List (List ℕ) × List (List ℕ))
 
-unfoldable pub names_format : (types fields constants : ℕ) → Format Names
-names_format t f c = pair (times t name_format) λ _. pair (times f name_format) λ _. times c name_format
-
 -- lines of k numbers each, one for each name
 unfoldable pub rows_of : (k : ℕ) → List ℕ → List (List ℕ) → List Row
 rows_of k l [] = []
@@ -36,8 +29,3 @@ rows_of k l (n ∷ ns) = (take k l, n) ∷ rows_of k (drop k l) ns
 
 abbrev pub with_names : (types fields constants bytes : List ℕ) → Names → Named
 with_names w f c b n = record { types = rows_of 4 w n.0; fields = rows_of 2 f n.1.0; constants = rows_of 3 c n.1.1; bytes = b }
-
--- the table that lies in lent lists; none where `names` is not a line of plain text for each type, field and constant
-unfoldable pub named_in : (types fields constants bytes names : List ℕ) → Option Named
-named_in w f c b names =
-    (names_format (length w / 4) (length f / 2) (length c / 3)).read names >>= λ r. whole r >>= λ n. some (with_names w f c b n)

@@ -1,11 +1,8 @@
 -- A type table as text, in the manner of the page (01, "Page" and "Type table"): names lines, one line a type, a field and a constant, each with a name at its end,
 -- then the constants' bytes. Names are carried and not interpreted.
-use Rattle.std.specs.Prelude.{ℕ, ◌≤◌, Bool, true, not, ◌&&◌, ◌≡◌, leb, eqb, length, if◌then◌else◌}
+use Rattle.std.specs.Prelude.{ℕ, ◌≤◌, Bool, true, not, ◌&&◌, ◌≡◌, leb, eqb, length}
 use mathlib.Core.List.{List, [], ◌∷◌, ◌++◌, flat_map}
-use Rattle.std.proofs.Math.Option.{Option, none, some}
-use Rattle.text.specs.Text.{◌>>=◌, ascii, decimal, hex, line, newline, comma, Bytes, Reader, give, read_field}
-use Rattle.text.specs.Format.{Format, bytes_line, after_literal, pair, times, All}
-use Rattle.pages.specs.Page.{whole}
+use Rattle.text.specs.Text.{ascii, decimal, hex, line, newline, comma, Bytes, All}
 
 -- a line: its numbers, and the name at its end
 abbrev pub Row : Type 0
@@ -86,54 +83,3 @@ pub record Within (d : Named) : Type 0 where
   pub bytes : Bytes d.bytes
 
 -- READING: the table's format, field after field
-
--- a number that is at most `most`, and the byte after it
-unfoldable pub up_to : (most end : ℕ) → Format ℕ
-up_to most end = record { print = λ n. decimal n ++ (end ∷ []); read = read_field most end }
-
--- a name up to the line's end, which is read too
-unfoldable pub read_name : Reader (List ℕ)
-read_name [] = none
-read_name (b ∷ t) =
-    if eqb b newline then give [] t
-    else if plain b then (read_name t >>= λ r. give (b ∷ r.0) r.1) else none
-
-unfoldable pub name_format : Format (List ℕ)
-name_format = record { print = name_text; read = read_name }
-
-unfoldable pub row_format : (k most : ℕ) → Format Row
-row_format k most = pair (times k (up_to most comma)) λ _. name_format
-
-abbrev pub Counts : Type 0
-Counts = ℕ × (ℕ × ℕ)
-
-unfoldable pub counts_format : Format Counts
-counts_format = after_literal count_names (pair (up_to 4096 comma) λ _. pair (up_to 16384 comma) λ _. up_to 4096 newline)
-
--- a names line, then so many lines
-unfoldable pub rows_format : (names : List ℕ) (n k most : ℕ) → Format (List Row)
-rows_format names n k most = after_literal names (times n (row_format k most))
-
-unfoldable pub bytes_format : Format (List ℕ)
-bytes_format = after_literal bytes_name bytes_line
-
-abbrev pub Body : Type 0
-Body = List Row × (List Row × (List Row × List ℕ))
-
-unfoldable pub table_format : Format (Counts × Body)
-table_format =
-    pair counts_format λ n. pair (rows_format type_names n.0 4 most64)
-    λ _. pair (rows_format field_names n.1.0 2 most32) λ _. pair (rows_format constant_names n.1.1 3 most64) λ _. bytes_format
-
-abbrev pub named_of : Counts × Body → Named
-named_of p = record { types = p.1.0; fields = p.1.1.0; constants = p.1.1.1.0; bytes = p.1.1.1.1 }
-
-abbrev pub saved : Named → Counts × Body
-saved d = (
-  (length d.types, (length d.fields, length d.constants)),
-  (d.types, (d.fields, (d.constants, d.bytes))),
-)
-
--- the table whose text a text is, if it is one's
-unfoldable pub read_table : List ℕ → Option Named
-read_table t = table_format.read t >>= λ r. whole r >>= λ p. some (named_of p)

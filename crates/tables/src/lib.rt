@@ -2,7 +2,7 @@
 #![tactic(auto)]
 
 ghost use Rattle.std.specs.Prelude.{◌≡◌, ◌+◌, ◌-◌, ◌≤◌, ◌<◌, length, drop};
-ghost use Rattle.tables.specs.Table.{read_name};
+ghost use Rattle.tables.specs.Reading.{read_name};
 ghost use Rattle.tables.specs.Inner.Answer.{ending, Got};
 
 // Where a name and the line's end after it end, from `at` on.

@@ -5,7 +5,8 @@ use mathlib.Core.Path.{◌≡◌, refl, sym, ap, ◌∙◌}
 use lib.ListN.{length, drop, get_or, length-drop, length-append}
 use lib.Seq.{get_or-drop}
 use native.Mathlib.Omega.{arith}
-use Rattle.text.specs.Text.{Bytes, hex, hex_digit, hex_digit_of, newline, read_hex, give}
+use Rattle.text.specs.Text.{Bytes, hex, hex_digit, newline}
+use Rattle.text.specs.Reading.{hex_digit_of, read_hex, give}
 use mathlib.Core.Option.{Option, none, some}
 use Rattle.text.specs.Inner.Answer.{hex_at, HexParsed, HexDigit}
 use Rattle.text.proofs.Laws.{none-not-some, some_inj, hex-digit-forth, hex-back, hex-length}

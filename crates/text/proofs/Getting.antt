@@ -17,10 +17,12 @@ use borrow.Author.Tests.{le-leb, lt-leb, eq-eqb, ne_eqb, leb-true, leb-false, lt
 use Rattle.std.proofs.lemmas.List.{get_or_read}
 use Rattle.word.proofs.ListLaws.{drop-cons-one}
 use Rattle.word.proofs.Bools.{and_both}
-use Rattle.text.specs.Text.{◌>>=◌, give, decimal, hex, newline, Bytes, digit_of, Stops, ends, scan, capped, after, read_decimal, read_literal, hex_digit_of, byte_of, read_hex, read_field}
-use Rattle.text.specs.Format.{Format, Right, either, number}
+use Rattle.text.specs.Text.{decimal, hex, newline, Bytes, read_literal}
+use Rattle.text.specs.Reading.{◌>>=◌, give, digit_of, ends, scan, capped, after, read_decimal, hex_digit_of, byte_of, read_hex, read_field}
+use Rattle.text.specs.Inner.Answer.{Stops, value_answer, literal_answer, value_answer, hex_answer, hex_more, HexDigit, HexDigits, HexRun, DigitAt}
+use Rattle.text.specs.Format.{Format, either, number}
+use Rattle.text.specs.Inner.Right.{Right}
 use Rattle.std.specs.Prelude.{Option, Some, None, MatchOption, MatchBool, is_some}
-use Rattle.text.specs.Inner.Answer.{value_answer, literal_answer, value_answer, hex_answer, hex_more, HexDigit, HexDigits, HexRun, DigitAt}
 use Rattle.text.proofs.Laws.{none-not-some, ends-stops, scan-some, scan-stops, scan-grows, read-digit, decimal-back, number-right, hex-back, literal-back}
 
 pub low : (b : ℕ) → b < 48 → digit_of b ≡ none

@@ -11,10 +11,13 @@ use lib.ListN.{length, length-append}
 use lib.Pow.{le_ones, lt_of_le_ones}
 use borrow.Author.Tests.{lt-ltb, le-ltb, le-leb, lt-leb, eq-eqb, ne_eqb, ltb-true, ltb-false, leb-true, eqb-true}
 use native.Mathlib.Omega.{arith}
-use Rattle.text.specs.Text.{◌>>=◌, give, Bytes, newline, digits, decimal, hex_digit, hex, digit_of, Stops, ends, scan, capped, after, read_decimal, hex_digit_of, byte_of, read_hex, read_literal, read_field}
+use Rattle.text.specs.Text.{Bytes, newline, digits, decimal, hex_digit, hex, read_literal, All}
+use Rattle.text.specs.Reading.{◌>>=◌, give, digit_of, ends, scan, capped, after, read_decimal, hex_digit_of, byte_of, read_hex, read_field}
+use Rattle.text.specs.Inner.Answer.{Stops}
 use Rattle.std.specs.Prelude.{if◌then◌else◌}
 use Rattle.word.proofs.Bools.{and_both}
-use Rattle.text.specs.Format.{Format, Right, number, bytes_line, after_literal, or_else, either, always, pair, times, mapped, read_all, All}
+use Rattle.text.specs.Format.{Format, number, bytes_line, after_literal, or_else, either, always, pair, times, mapped, read_all}
+use Rattle.text.specs.Inner.Right.{Right}
 
 -- Options
 

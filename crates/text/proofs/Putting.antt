@@ -10,7 +10,8 @@ use native.Mathlib.Nat.{add-zero}
 use Rattle.word.proofs.PutLaws.{put-none, length-put, put-put, copy-turn}
 use borrow.Rule.Slice.PartMut.{put_mid}
 use Rattle.word.specs.Put.{put}
-use Rattle.text.specs.Put.{put_text, Puts}
+use Rattle.text.specs.Put.{put_text}
+use Rattle.text.specs.Inner.Puts.{Puts}
 use Rattle.text.specs.Text.{decimal, hex, hex_digit}
 use Rattle.text.proofs.Laws.{decimal-one, decimal-more, decimal-length-one, decimal-length-more, hex-length}
 

@@ -4,7 +4,7 @@ use mathlib.Core.List.{List, [], ◌++◌}
 use mathlib.Core.Path.{◌≡◌, refl, ap, ◌∙◌}
 use lib.ListN.{length, length-append}
 use native.Mathlib.Omega.{arith}
-use Rattle.text.specs.Put.{Puts}
+use Rattle.text.specs.Inner.Puts.{Puts}
 use Rattle.text.proofs.Putting.{puts-puts, puts-at, puts_none, puts-length}
 use Rattle.text.specs.Inner.Wrote.{Wrote}
 use Rattle.text.specs.declared.output.Out.{Out}

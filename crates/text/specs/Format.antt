@@ -1,18 +1,13 @@
 -- A format: how values of a type are printed, and how they are read back with the rest of the text. Formats are put together from smaller ones.
-use Rattle.std.specs.Prelude.{ℕ, zero, suc, ◌-◌, ◌^◌, ◌≡◌, Bool, true, false, if◌then◌else◌}
+use Rattle.std.specs.Prelude.{ℕ, zero, suc, ◌-◌, ◌^◌, Bool, true, false, if◌then◌else◌}
 use mathlib.Core.List.{List, [], ◌∷◌, ◌++◌, flat_map}
 use Rattle.std.proofs.Math.Option.{Option, none, some}
-use Rattle.text.specs.Text.{Reader, give, ◌>>=◌, newline, decimal, hex, read_field, read_hex, read_literal}
+use Rattle.text.specs.Text.{newline, decimal, hex, read_literal}
+use Rattle.text.specs.Reading.{Reader, give, ◌>>=◌, read_field, read_hex}
 
 pub record Format (A : Type 0) : Type 0 where
   pub print : A → List ℕ
   pub read : Reader A
-
--- what makes a format right for the values that are `good`: reading what was printed gives the value back and the rest of the text,
--- and what was read was printed from just that value
-pub record Right {A : Type 0} (f : Format A) (good : A → Type 0) : Type 0 where
-  pub forth : (a : A) (rest : List ℕ) → good a → f.read (f.print a ++ rest) ≡ give a rest
-  pub back : (t : List ℕ) (a : A) (rest : List ℕ) → f.read t ≡ give a rest → good a × (f.print a ++ rest ≡ t)
 
 -- a number of a width in bits, and the byte after it
 unfoldable pub number : (width end : ℕ) → Format ℕ
@@ -67,8 +62,3 @@ times n f = record { print = flat_map f.print; read = read_all f.read n }
 -- values of another type, one for one
 unfoldable pub mapped : {A B : Type 0} → (A → B) → (B → A) → Format A → Format B
 mapped to from f = record { print = λ b. f.print (from b); read = λ t. f.read t >>= λ r. give (to r.0) r.1 }
-
--- every element is good
-abbrev pub All : {A : Type 0} → (A → Type 0) → List A → Type 0
-All good [] = Unit
-All good (a ∷ l) = good a × All good l

@@ -1,3 +1,5 @@
 -- What only the contracts of inner functions cite.
 pub mod Answer
+pub mod Puts
+pub mod Right
 pub mod Wrote

@@ -1,12 +1,7 @@
 -- What a text that is put into a list of bytes leaves there.
-use Rattle.std.specs.Prelude.{ℕ, ◌+◌, List, ◌≡◌, length}
+use Rattle.std.specs.Prelude.{ℕ, List, length}
 use Rattle.word.specs.Put.{put}
 
 -- `text`, whole, from index `at` on
 abbrev pub put_text : (out : List ℕ) (at : ℕ) (text : List ℕ) → List ℕ
 put_text out at text = put out at text (length text)
-
--- a call put `text` into `out` from `at` on, and answered where it ends
-pub record Puts (before after : List ℕ) (at r : ℕ) (text : List ℕ) : Type 0 where
-  pub next : r ≡ at + length text
-  pub out : after ≡ put_text before at text

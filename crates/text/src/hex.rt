@@ -1,9 +1,9 @@
 // Bytes that a text spells in hexadecimal.
 ghost use Rattle.std.specs.Prelude.{◌≡◌, ◌≢◌, ◌+◌, ◌≤◌, ◌<◌, length, drop, get_or};
 ghost use Rattle.std.proofs.Math.Option.{none};
-ghost use Rattle.text.specs.Text.{read_hex};
+ghost use Rattle.text.specs.Reading.{read_hex};
 ghost use Rattle.text.specs.Inner.Answer.{hex_at};
-ghost use Rattle.text.specs.Put.{Puts};
+ghost use Rattle.text.specs.Inner.Puts.{Puts};
 
 // A text, where it begins to spell bytes, and how many they are.
 #[derive(Clone, Copy)]

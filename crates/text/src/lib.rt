@@ -2,12 +2,12 @@
 #![tactic(auto)]
 
 ghost use Rattle.std.specs.Prelude.{◌≡◌, ◌+◌, ◌-◌, ◌/◌, ◌≤◌, ◌<◌, length, drop, get_or, true, MatchOption, MatchBool};
-ghost use Rattle.text.specs.Text.{decimal, hex, hex_digit, Stops, scan, capped, read_decimal, read_literal, hex_digit_of, read_hex, read_field};
-ghost use Rattle.text.specs.Inner.Answer.{value_answer, literal_answer, hex_answer, hex_more, DigitAt};
+ghost use Rattle.text.specs.Text.{decimal, hex, hex_digit, read_literal};
+ghost use Rattle.text.specs.Reading.{scan, capped, read_decimal, hex_digit_of, read_hex, read_field};
+ghost use Rattle.text.specs.Inner.Answer.{Stops, value_answer, literal_answer, hex_answer, hex_more, DigitAt, hex_at, HexParsed, HexDigit, HexDigits, HexRun};
 ghost use Rattle.text.specs.Format.{either};
-ghost use Rattle.text.specs.Put.{Puts};
+ghost use Rattle.text.specs.Inner.Puts.{Puts};
 ghost use Rattle.std.proofs.Math.Option.{none, some};
-ghost use Rattle.text.specs.Inner.Answer.{hex_at, HexParsed, HexDigit, HexDigits, HexRun};
 
 pub mod hex;
 pub mod output;

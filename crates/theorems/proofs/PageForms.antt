@@ -8,12 +8,15 @@ use native.Mathlib.Omega.{arith}
 use Rattle.std.specs.Prelude.{if◌then◌else◌}
 use Rattle.refusal.specs.declared.Answer.{Answer}
 use Rattle.word.proofs.Bools.{true-false}
-use Rattle.text.specs.Text.{give, ◌>>=◌, ascii, newline}
-use Rattle.text.specs.Format.{Right, number, always, after_literal, pair, times}
+use Rattle.text.specs.Text.{ascii, newline}
+use Rattle.text.specs.Reading.{give, ◌>>=◌}
+use Rattle.text.specs.Format.{number, always, after_literal, pair, times}
+use Rattle.text.specs.Inner.Right.{Right}
 use Rattle.text.proofs.Laws.{bind-some, some_inj, always-right, after-literal-right, pair-right, times-right}
 use Rattle.heap.specs.State.{State}
 use Rattle.pages.specs.Form.{Form, form_of, writes_width, written, earlier, heap_front, no_retired, heap_names, slot_front, narrow_writes, data_name, slot_names, free_name, quarantine_name, sealed_name}
-use Rattle.pages.specs.Page.{slot_line, value_line, retired_part, page_text, Within, Unsaved, slot_format, Head, Body, state_of, head_of, body_of, whole, read_page}
+use Rattle.pages.specs.Page.{slot_line, value_line, retired_part, page_text, Within, Unsaved}
+use Rattle.pages.specs.Reading.{slot_format, Head, Body, state_of, head_of, body_of, whole, read_page}
 use Rattle.pages.proofs.Laws.{Head-good, Body-good, head-right, slot-right, last, head-prints, slot-prints, value-prints, flat_map-same, good-saved, within-read, whole-some, same-unsaved, read-written, written_read, read-exactly}
 use Rattle.theorems.specs.EarlierPage.{earlier_heap_names, earlier_slot_names, earlier_body, earlier_format, earlier_read, earlier_verdict, earlier_into}
 use Rattle.theorems.specs.PageForms.{EveryFormRead, EarlierStillRead, EarlierRefuses, EarlierRewritten, FormTold, FormsTold}

@@ -1,13 +1,5 @@
 -- What the reader's answer says of the text and of lent memory. Assumes nothing.
 use Prim.Native.Nat.{ℕ, ◌≤◌}
-use mathlib.Core.Bool.{Bool, true, false, ◌&&◌}
-use mathlib.Core.List.{List}
-use mathlib.Core.Option.{some}
-use mathlib.Core.Path.{◌≡◌, refl, ap, ◌∙◌}
-use lib.Dec.{leb, eqb, ltb}
-use lib.ListN.{length}
-use native.Mathlib.Omega.{arith}
-use borrow.Author.Tests.{le-leb, le-ltb, eq-eqb}
 use Rattle.word.specs.Result.{Result, ok, refused}
 use Rattle.word.proofs.Bools.{and_both}
 use Rattle.refusal.specs.Told.{refused_by, answered}
@@ -23,7 +15,7 @@ use Rattle.heap.proofs.Seals.{seals-few}
 use Rattle.heap.proofs.Storing.{view-stored}
 use Rattle.heap.proofs.Testing.{stored-formed, formed-tested}
 use Rattle.pages.specs.Form.{Form}
-use Rattle.pages.specs.Page.{page_text, Within, read_page, moved, brought}
+use Rattle.pages.specs.Page.{page_text, Within, moved, brought}
 use Rattle.pages.proofs.Laws.{read-written}
 use Rattle.page_parser.specs.Contents.{form_in}
 use Rattle.page_check.specs.Verdict.{verdict}
@@ -34,6 +26,15 @@ use Rattle.door.specs.HeapCalls.{Outcome, enough}
 use Rattle.door.proofs.Entering.{is-enough}
 use Rattle.page_door.specs.Page.{reading}
 use Rattle.theorems.specs.PageCalls.{Reads, unlogged, done, Scratch, Room, SameSizes, TookIn}
+use Rattle.pages.specs.Reading.{read_page}
+use mathlib.Core.Bool.{Bool, true, false, ◌&&◌}
+use mathlib.Core.List.{List}
+use mathlib.Core.Option.{some}
+use mathlib.Core.Path.{◌≡◌, refl, ap, ◌∙◌}
+use lib.Dec.{leb, eqb, ltb}
+use lib.ListN.{length}
+use native.Mathlib.Omega.{arith}
+use borrow.Author.Tests.{le-leb, le-ltb, eq-eqb}
 
 -- epoch and log have no part in being sound
 pub sound-unlogged : (h : State) → sound (unlogged h) ≡ sound h

@@ -1,7 +1,8 @@
 -- The proved table of 01 holds of the definitions, by computation: one statement over the table. Assumes nothing.
 use mathlib.Core.Path.{◌≡◌, refl}
 use mathlib.Core.Bool.{true}
-use Rattle.word.specs.Lists.{all, same_list}
+use Rattle.word.specs.Lists.{all}
+use Rattle.word.specs.Same.{same_list}
 use Rattle.word.specs.Num.{align_up}
 use Rattle.word.specs.Le.{le, bytes}
 use Rattle.handle.specs.Handle.{packed, tag_of, index_of, generation_of, resolve_by}

@@ -17,8 +17,10 @@ use Rattle.collection.specs.Swept.{drop_slot, drop_slots, drop_unmarked, swept}
 use Rattle.flow.specs.Function.{Function}
 use Rattle.ty.specs.Types.{Table}
 use Rattle.collection.specs.Shown.{shown}
-use Rattle.collection.specs.Collected.{graph, starts, swept_by, collected}
-use Rattle.collection.specs.Joined.{Pinning, pins_at, values_of, root_registers, joined_by, joined}
+use Rattle.collection.specs.Collected.{graph, starts}
+use Rattle.collection.specs.Collecting.{swept_by, collected}
+use Rattle.collection.specs.Joined.{pins_at, values_of, root_registers, joined_by, joined}
+use Rattle.collection.specs.JoinedDemand.{Pinning}
 use Rattle.theorems.specs.RetiredStays.{Stays, RetiredStays}
 
 -- nothing joins it

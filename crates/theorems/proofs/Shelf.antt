@@ -19,7 +19,7 @@ use Rattle.shelves.specs.declared.At.{At}
 use Rattle.shelves.specs.declared.At.TheVariants.{Over}
 use Rattle.shelves.specs.declared.Shelf.{Shelf}
 use Rattle.shelves.specs.Shelf.{LengthLine, length_of, unfinished, no_length, length_line, Page, whole, cut_off, by_line, pages_in, shown, answers_of, accepted, last_line, shelf_text}
-use Rattle.shelves.specs.Inner.Steps.{left_at, printed, text_left}
+use Rattle.shelves.specs.Steps.{left_at, printed, text_left}
 use Rattle.shelves.proofs.Lengths.{line-forth, line-back}
 use Rattle.shelves.proofs.Taking.{bytes-there, bytes-short}
 use Rattle.theorems.specs.Shelf.{last_figures, Sums, LastLineSums, shelf_of, Measurable, IsShelf, NoneCutOff, Reordered, AnyOrder, Together, Run, ended, over, goes, RunPrints}

@@ -9,15 +9,15 @@ use lib.ListN.{length, take}
 use native.Mathlib.Omega.{arith}
 use borrow.Author.Tests.{le-leb, lt-leb}
 use Rattle.word.specs.Result.{Result, ok, refused}
-use Rattle.text.specs.Text.{Bytes}
-use Rattle.text.specs.Format.{All}
+use Rattle.text.specs.Text.{Bytes, All}
 use Rattle.text.specs.Put.{put_text}
 use Rattle.refusal.specs.Told.{answered, here, nothing, refused_by}
 use Rattle.refusal.specs.declared.Answer.{Answer}
 use Rattle.ty.specs.Check.{table_good}
 use Rattle.pages.specs.Answer.{text_answer, text_out}
-use Rattle.tables.specs.Table.{Named, most64, most32, table_text, read_table}
-use Rattle.tables.specs.Lists.{numbers_in, all_names, good, named_in}
+use Rattle.tables.specs.Table.{Named, most64, most32, table_text}
+use Rattle.tables.specs.Reading.{read_table, named_in}
+use Rattle.tables.specs.Lists.{numbers_in, all_names, good}
 use Rattle.tables.proofs.Laws as tables
 use Rattle.table_writer.specs.Writing.{table_in, writing, leaving}
 use Rattle.table_writer.proofs.TablesInLists.{lists-hold, Lying, lying}

@@ -1,11 +1,13 @@
 -- All tests of a joined collection can pass, by computation. Assumes nothing.
 use mathlib.Core.Path.{refl}
-use Rattle.word.specs.Lists.{all, all_below, tabulate, same_list}
+use Rattle.word.specs.Lists.{all, all_below, tabulate}
+use Rattle.word.specs.Same.{same_list}
 use Rattle.ty.specs.Check.{all_of, table_good}
 use Rattle.heap.specs.State.{times}
 use Rattle.heap.specs.Packing.{pad, flat, ends, data_at, start_of}
 use Rattle.heap.specs.Lent.{header_of, stored, slot_in, view}
-use Rattle.heap.specs.WellFormed.{sound_slot, partitioned, retired_rightly, sound_seals, sound_reclaim, sound, fits, same_header, same_lent, well_formed}
+use Rattle.heap.specs.WellFormed.{sound_slot, partitioned, retired_rightly, sound_seals, sound_reclaim, sound, fits, well_formed}
+use Rattle.heap.specs.Same.{same_header, same_lent}
 use Rattle.heap_calls.specs.Pins.{rising_from}
 use Rattle.addresses.specs.Listed.{addresses_of, paired}
 use Rattle.door.specs.HeapCalls.{admitted, enough}

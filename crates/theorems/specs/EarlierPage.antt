@@ -3,12 +3,14 @@
 use Rattle.std.specs.Prelude.{ℕ, Bool, false, ◌&&◌, List, [], ltb, length, if◌then◌else◌}
 use Rattle.std.proofs.Math.Option.{Option, none, some}
 use Rattle.word.specs.Result.{Result, ok, refused}
-use Rattle.text.specs.Text.{◌>>=◌, ascii, newline}
+use Rattle.text.specs.Text.{ascii, newline}
+use Rattle.text.specs.Reading.{◌>>=◌}
 use Rattle.text.specs.Format.{Format, number, always, after_literal, pair, times}
 use Rattle.heap.specs.State.{State, data_size}
 use Rattle.heap.specs.Lent.{Lent, slot_count, pool_size}
 use Rattle.pages.specs.Form.{earlier}
-use Rattle.pages.specs.Page.{slot_format, Head, head_format, Body, state_of, whole, sound_before}
+use Rattle.pages.specs.Page.{sound_before}
+use Rattle.pages.specs.Reading.{slot_format, Head, head_format, Body, state_of, whole}
 use Rattle.page_reader.specs.Reading.{Left, left, in_range}
 
 unfoldable pub earlier_heap_names : List ℕ

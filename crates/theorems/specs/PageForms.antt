@@ -7,11 +7,12 @@ use Rattle.heap.specs.State.{State}
 use Rattle.heap.specs.Lent.{Lent, view}
 use Rattle.heap.specs.WellFormed.{sound}
 use Rattle.pages.specs.Form.{Form, written, earlier}
-use Rattle.pages.specs.Page.{page_text, Within, read_page, brought}
+use Rattle.pages.specs.Page.{page_text, Within, brought}
 use Rattle.page_parser.specs.Contents.{form_in, heap_in}
 use Rattle.theorems.specs.PageCalls.{Writes, Reads, Scratch, Room, TookIn, WroteText, met}
 use Rattle.theorems.specs.PageHeapPage.{TextRead}
 use Rattle.theorems.specs.EarlierPage.{earlier_read, earlier_into}
+use Rattle.pages.specs.Reading.{read_page}
 
 -- a page, in whatever form, of which the heap that it brings is sound, is taken in as that heap by lent memory with room: every number is carried over unchanged, and where the form
 -- has no retired list the worn-out free slots are moved to it, in free order

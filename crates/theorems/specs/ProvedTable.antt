@@ -1,7 +1,8 @@
 -- The proved table of 01, cases (a), (b) and (d) to (k) (request [7] took (c) out), and the depths at which nesting ends: what each definition gives, and what it should give, as numbers.
 use Rattle.std.specs.Prelude.{ℕ, Bool, List, [], ◌∷◌, length, replicate}
 use Rattle.std.proofs.Math.Option.{Option, none, some}
-use Rattle.word.specs.Lists.{all, same_list}
+use Rattle.word.specs.Lists.{all}
+use Rattle.word.specs.Same.{same_list}
 use Rattle.word.specs.Result.{Result, ok, refused}
 use Rattle.handle.specs.Handle.{packed}
 use Rattle.heap.specs.Calls.{new, resolve}

@@ -6,8 +6,9 @@ use Rattle.heap.specs.Calls.{alloc_from, edit, write, reissue, take_into, free, 
 use Rattle.reach.specs.Reach.{Graph, Starts}
 use Rattle.flow.specs.Function.{Function}
 use Rattle.ty.specs.Types.{Table}
-use Rattle.collection.specs.Collected.{collected}
-use Rattle.collection.specs.Joined.{Pinning, joined}
+use Rattle.collection.specs.Collecting.{collected}
+use Rattle.collection.specs.Joined.{joined}
+use Rattle.collection.specs.JoinedDemand.{Pinning}
 
 -- h before a call, h' after it
 pub record Stays (h h' : State) : Type 0 where

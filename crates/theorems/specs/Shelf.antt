@@ -1,14 +1,13 @@
 -- Figures for a whole shelf (request [14]): what the last line says, any order of the pages, shelves put together, and that a run prints what is defined.
 use Rattle.std.specs.Prelude.{ℕ, ◌+◌, ◌^◌, ◌≤◌, ◌<◌, max, Bool, false, ◌≡◌, length, take, drop}
 use mathlib.Core.List.{List, [], ◌∷◌, ◌++◌, map, foldr}
-use Rattle.text.specs.Text.{decimal, newline}
-use Rattle.text.specs.Format.{All}
+use Rattle.text.specs.Text.{decimal, newline, All}
 use Rattle.figures.specs.declared.Figures.{Figures}
 use Rattle.figures.specs.Figures.{merge, total, figures_line}
 use Rattle.shelves.specs.declared.At.TheVariants.{Over}
 use Rattle.shelves.specs.declared.Shelf.{Shelf}
 use Rattle.shelves.specs.Shelf.{whole, pages_in, answers_of, answer_lines, accepted, names_line, last_line, shelf_text}
-use Rattle.shelves.specs.Inner.Steps.{Goes, Begun, Ends}
+use Rattle.shelves.specs.Steps.{Goes, Begun, Ends}
 
 -- ---- the last line
 

@@ -12,7 +12,7 @@ use Rattle.ty.proofs.Laws.{word-is}
 use Rattle.ty.specs.Words.{word_of, on_word, round_up, Word}
 use Rattle.ty.specs.Scalars.{scalar_size, elem_size, logic_leaf}
 use Rattle.layout.specs.Layout.{Lay, dims_of, on_ok, on_bytes, under, used_by, array_laid, array_of, end_of, placed, record_of, scalar_laid, layout_by, layout_at}
-use Rattle.ty.specs.Walks.{desc_array, desc_fields, desc_by, desc_at, desc_size}
+use Rattle.ty.specs.DescSize.{desc_array, desc_fields, desc_by, desc_at, desc_size}
 use Rattle.refusal.specs.declared.Refusal.{Refusal}
 use Rattle.refusal.specs.declared.Refusal.TheVariants.{TooLarge}
 use Rattle.layout.specs.declared.Layout.{Layout}
@@ -90,7 +90,7 @@ module _ (T : Table) (n k : ℕ) (IH : (t : ℕ) (d : List ℕ) → length d < 2
       (record-sizes fs d o (max al v.align) (used + used_by c v.used) l (omega arith))))
 
   by-sizes : (t : ℕ) (d : List ℕ) (y : Ty) → length d < 2 ^ 64 → Sizes (desc_by (desc_at T.types k) y) (layout_by T (layout_at T n) t d y)
-  unfolding layout_by desc_by
+  unfolding layout_by scalar_size desc_by
   by-sizes t d missing l = tt
   by-sizes t d (int lo hi) l = refl
   by-sizes t d physical l = refl

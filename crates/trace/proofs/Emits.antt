@@ -12,7 +12,7 @@ use native.Mathlib.Decide.{dec_le}
 use native.Mathlib.Omega.{arith}
 use Rattle.std.specs.Prelude.{None, Some}
 use Rattle.word.specs.Result.{Result, ok, refused}
-use Rattle.handle.specs.Handle.{told as resolved}
+use Rattle.handle.specs.Inner.Told.{told as resolved}
 use Rattle.std.specs.Prelude.{Result as Outcome, Ok, Err}
 use Rattle.refusal.specs.declared.Refusal.{Refusal}
 use Rattle.trace.specs.Places.{Places, only_if, both, many, turns, handle_at, words_at}

@@ -1,21 +1,22 @@
 -- The ways out of a trace of an object and of visible data, one law for each. Assumes nothing.
 use Prim.Native.Nat.{ℕ, suc, ◌+◌, ◌-◌, ◌*◌, ◌/◌, ◌≤◌, ◌<◌}
+use Rattle.ty.specs.Words.{Word}
+use Rattle.word.specs.Result.{Result, ok, refused}
+use Rattle.std.specs.Prelude.{Some, None}
+use Rattle.ty.specs.Types.{Table}
+use Rattle.ty.specs.Walks.{has_handles}
+use Rattle.ty.specs.declared.Table.{Table as Lent}
+use Rattle.ty.specs.View.{lent, types_of}
+use Rattle.trace.specs.Places.{places_at, object_places, rising, handles_places, kind_places}
+use Rattle.trace.specs.Inner.Emit.{Answer, Raw, Aim, handed, handed_all, handing_at, told}
+use Rattle.trace.proofs.Emits.{emit-none, emit-nil}
+use Rattle.ty.specs.DescSize.{desc_size}
 use mathlib.Core.Path.{◌≡◌, refl, ap, ◌∙◌}
 use mathlib.Core.Bool.{Bool, true, false}
 use mathlib.Core.List.{List}
 use lib.ListN.{length, take}
 use borrow.Author.Tests.{le-leb, lt-leb, eq-eqb, ne_eqb}
 use native.Mathlib.Omega.{arith}
-use Rattle.ty.specs.Words.{Word}
-use Rattle.word.specs.Result.{Result, ok, refused}
-use Rattle.std.specs.Prelude.{Some, None}
-use Rattle.ty.specs.Types.{Table}
-use Rattle.ty.specs.Walks.{desc_size, has_handles}
-use Rattle.ty.specs.declared.Table.{Table as Lent}
-use Rattle.ty.specs.View.{lent, types_of}
-use Rattle.trace.specs.Places.{places_at, object_places, rising, handles_places, kind_places}
-use Rattle.trace.specs.Inner.Emit.{Answer, Raw, Aim, handed, handed_all, handing_at, told}
-use Rattle.trace.proofs.Emits.{emit-none, emit-nil}
 
 -- ---- an object
 

@@ -8,6 +8,7 @@ use native.Mathlib.Omega.{arith}
 use lib.ListN.{length, drop}
 use lib.Dec.{eqb}
 use Rattle.std.specs.Prelude.{Some, None, Ok, Err, if◌then◌else◌}
+use Rattle.ty.specs.Scalars.{scalar_size}
 use Rattle.ty.specs.Types.{Ty, Ty.missing, Ty.int, Ty.physical, Ty.enum, Ty.real, Ty.array, Ty.fields, Ty.access, Ty.file, Ty.protected, Field, Field.field, Const, Const.plain, Const.other, Table, type_at, const_at, none as no_const}
 use Rattle.ty.specs.Words.{word_of, on_word, round_up, Word}
 use Rattle.ty.specs.Walks.{has_handles}
@@ -62,7 +63,7 @@ keeps-count n (Err e) y k h = absurd h
 
 module _ (T : Table) (end : ℕ) where
   by-type : (next : Below) (t : ℕ) (d : List ℕ) (at : ℕ) (y : Ty) → Counts (layout_of T t d) 0 → Counts (layout_by T (layout_at T 63) t d y) 0 → places_by T next end t d at y ≡ some []
-  unfolding places_by layout_by
+  unfolding places_by layout_by scalar_size
   by-type next t d at missing w h = absurd h
   by-type next t d at (int lo hi) w h = refl
   by-type next t d at physical w h = refl

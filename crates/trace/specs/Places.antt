@@ -3,9 +3,10 @@
 use Rattle.std.specs.Prelude.{ℕ, zero, suc, ◌+◌, ◌-◌, ◌*◌, ◌/◌, min, Bool, true, false, List, [], ◌∷◌, ◌++◌, map, length, take, drop, leb, eqb, Some, Ok, Err, if◌then◌else◌}
 use Rattle.std.proofs.Math.Option.{Option, none, some}
 use Rattle.word.specs.Le.{le}
-use Rattle.ty.specs.Types.{Ty, Ty.missing, Ty.int, Ty.physical, Ty.enum, Ty.real, Ty.array, Ty.fields, Ty.access, Ty.file, Ty.protected, Field, Field.field, Const, Const.plain, Const.other, Table, type_at, const_at, none as no_const}
+use Rattle.ty.specs.Types.{Ty, Ty.missing, Ty.array, Ty.fields, Ty.access, Ty.protected, Field, Field.field, Const, Const.plain, Const.other, Table, type_at, const_at, none as no_const}
 use Rattle.ty.specs.Words.{on_word, Word}
-use Rattle.ty.specs.Walks.{desc_size, has_handles}
+use Rattle.ty.specs.Walks.{has_handles}
+use Rattle.ty.specs.DescSize.{desc_size}
 use Rattle.layout.specs.Layout.{Lay, layout_of}
 use Rattle.layout.specs.Offsets.{offsets_of}
 
@@ -65,15 +66,11 @@ field_places T next end at (field t c ∷ fs) (o ∷ os) d used =
 -- a value of type t, which is y, under the descriptor d, from byte `at` of data of `end` bytes
 unfoldable pub places_by : Table → Below → ℕ → ℕ → List ℕ → ℕ → Ty → Places
 places_by T next end t d at missing = none
-places_by T next end t d at (int lo hi) = some []
-places_by T next end t d at physical = some []
-places_by T next end t d at (enum n logic) = some []
-places_by T next end t d at real = some []
 places_by T next end t d at (array e c k) = if_laid (layout_of T t d) (λ st n. many end (part_places T next e c (drop (24 * k) d)) st (turns st n) at)
 places_by T next end t d at (fields fs) = if_laid (layout_of T t d) (λ st n. field_places T next end at fs (offsets_of T t d) d 0)
 places_by T next end t d at access = only_if (leb (at + 8) end) (some (at ∷ []))
-places_by T next end t d at file = some []
 places_by T next end t d at protected = only_if (leb (at + 8) end) (some (at ∷ []))
+places_by T next end t d at y = some []
 
 -- with so many levels left, itself among them; a type without handles passes whatever the data
 unfoldable pub places_at : Table → ℕ → ℕ → ℕ → List ℕ → ℕ → Places

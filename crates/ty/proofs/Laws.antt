@@ -4,7 +4,8 @@ use Prim.Native.Nat.{ℕ, ◌+◌, ◌-◌, ◌^◌, ◌≤◌, ◌<◌, max}
 use native.Mathlib.Omega.{arith}
 use borrow.Author.Tests.{lt-ltb, le-ltb, le-leb, lt-leb}
 use Rattle.std.specs.Prelude.{Option, Some, None, SomeIff}
-use Rattle.word.specs.Num.{align_up, aligned_at}
+use Rattle.word.specs.Num.{align_up}
+use Rattle.word.specs.Inner.Num.{aligned_at}
 use Rattle.ty.specs.Words.{Word, word_at, word_of}
 use Rattle.ty.specs.View.{entry_of}
 use Rattle.ty.specs.declared.Entry.TheVariants.{Record}

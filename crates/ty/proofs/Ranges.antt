@@ -8,7 +8,7 @@ use lib.ListN.{length, get_or}
 use lib.Dec.{ltb, leb, eqb}
 use borrow.Author.Tests.{leb-true}
 use Rattle.std.specs.Prelude.{Option, Some, None, if◌then◌else◌}
-use Rattle.ty.specs.Scalars.{elem_size}
+use Rattle.ty.specs.Scalars.{scalar_size, elem_size}
 use Rattle.ty.specs.View.{read_entry, entry_of, entry_at, part_at, bare}
 use Rattle.ty.specs.declared.Entry.{Entry}
 use Rattle.ty.specs.declared.Entry.TheVariants.{Int, Physical, Enum, Real, Array, Record, Access, File, Protected}
@@ -77,7 +77,7 @@ record-within w nf t x y e ee o = within-fields w nf t x y (ee ∙ ap Some o)
 
 -- an element's size does not go by a record's fields
 pub elem-bare : (fs : List ℕ) (e : Entry) → elem_size (read_entry fs e) ≡ elem_size (bare e)
-unfolding elem_size read_entry
+unfolding elem_size scalar_size read_entry
 elem-bare fs (Int lo hi) = refl
 elem-bare fs Physical = refl
 elem-bare fs (Enum n l) = refl

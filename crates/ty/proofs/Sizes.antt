@@ -15,7 +15,8 @@ use Rattle.word.proofs.ListLaws.{below_at}
 use Rattle.ty.specs.Types.{Ty, Ty.missing, Ty.int, Ty.physical, Ty.enum, Ty.real, Ty.array, Ty.fields, Ty.access, Ty.file, Ty.protected, Field, Field.field, type_at, none as no_const}
 use Rattle.ty.specs.Words.{word_of, on_word, Word}
 use Rattle.ty.specs.View.{read_entry, read_ty, entry_of, entry_at, types_of}
-use Rattle.ty.specs.Walks.{desc_array, desc_fields, desc_by, desc_at, desc_size, plus, size_fields, size_by, size_at, desc_bytes, unfold_fields, unfold_by, unfold_at}
+use Rattle.ty.specs.Walks.{plus, size_fields, size_by, size_at, desc_bytes, unfold_fields, unfold_by, unfold_at}
+use Rattle.ty.specs.DescSize.{desc_array, desc_fields, desc_by, desc_at, desc_size}
 use Rattle.ty.specs.Check.{all_of, good_type, good_type_at, small_at, table_good}
 use Rattle.ty.specs.declared.Entry.TheVariants.{Int, Physical, Enum, Real, Array, Record, Access, File, Protected}
 use Rattle.ty.proofs.Laws.{word-is, word_over}

@@ -9,7 +9,8 @@ use borrow.Author.Tests.{eq-eqb, ne_eqb}
 use Rattle.std.specs.Prelude.{Some, None}
 use Rattle.ty.specs.Types.{Ty, Field.field, type_at, none}
 use Rattle.ty.specs.Words.{word_of, Word}
-use Rattle.ty.specs.Walks.{desc_array, desc_fields, desc_by, desc_at, any_field, handles_by, handles_at}
+use Rattle.ty.specs.Walks.{any_field, handles_by, handles_at}
+use Rattle.ty.specs.DescSize.{desc_array, desc_fields, desc_by, desc_at}
 use Rattle.ty.specs.View.{read_entry, read_ty, entry_at, fields_from, types_of}
 use Rattle.ty.specs.declared.Entry.{Entry}
 use Rattle.ty.specs.declared.Entry.TheVariants.{Int, Physical, Enum, Real, Array, Record, Access, File, Protected}

@@ -5,4 +5,5 @@ pub mod Scalars
 pub mod View
 pub mod Walks
 pub mod Check
+pub mod DescSize
 pub mod Inner

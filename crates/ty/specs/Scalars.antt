@@ -1,20 +1,16 @@
 -- Sizes of scalars, and the logic kind of nested arrays (01, "Type table": scalars, narrow elements, logic arrays).
 use Rattle.std.specs.Prelude.{ℕ, zero, suc, ◌+◌, ◌-◌, ◌^◌, List, Bool, ◌&&◌, ltb, leb, Option, Some, None, if◌then◌else◌}
 use Rattle.ty.specs.Words.{rank}
-use Rattle.ty.specs.Types.{Ty, Ty.missing, Ty.int, Ty.physical, Ty.enum, Ty.real, Ty.array, Ty.fields, Ty.access, Ty.file, Ty.protected, type_at}
+use Rattle.ty.specs.Types.{Ty, Ty.missing, Ty.int, Ty.enum, Ty.array, Ty.fields, Ty.file, type_at}
 
 -- The size of a scalar; arrays and records have none by themselves. 8, but Enum 1 up to 256 literals then 4, File 4
 unfoldable pub scalar_size : Ty → Option ℕ
 scalar_size missing = None
-scalar_size (int lo hi) = Some 8
-scalar_size physical = Some 8
-scalar_size (enum n logic) = if leb n 256 then Some 1 else Some 4
-scalar_size real = Some 8
 scalar_size (array e c k) = None
 scalar_size (fields fs) = None
-scalar_size access = Some 8
+scalar_size (enum n logic) = if leb n 256 then Some 1 else Some 4
 scalar_size file = Some 4
-scalar_size protected = Some 8
+scalar_size scalar = Some 8
 
 -- an Int with lo at least -2^31 and hi at most 2^31 - 1
 unfoldable pub narrow : ℕ → ℕ → Bool
@@ -22,28 +18,13 @@ narrow lo hi = leb (2 ^ 63 - 2 ^ 31) (rank lo) && ltb (rank hi) (2 ^ 63 + 2 ^ 31
 
 -- in an array a narrow Int takes 4
 unfoldable pub elem_size : Ty → Option ℕ
-elem_size missing = None
 elem_size (int lo hi) = if narrow lo hi then Some 4 else Some 8
-elem_size physical = Some 8
-elem_size (enum n logic) = if leb n 256 then Some 1 else Some 4
-elem_size real = Some 8
-elem_size (array e c k) = None
-elem_size (fields fs) = None
-elem_size access = Some 8
-elem_size file = Some 4
-elem_size protected = Some 8
+elem_size y = scalar_size y
 
 unfoldable pub leaf_by : (ℕ → ℕ) → Ty → ℕ
-leaf_by below missing = 0
-leaf_by below (int lo hi) = 0
-leaf_by below physical = 0
 leaf_by below (enum n logic) = logic
-leaf_by below real = 0
 leaf_by below (array e c k) = below e
-leaf_by below (fields fs) = 0
-leaf_by below access = 0
-leaf_by below file = 0
-leaf_by below protected = 0
+leaf_by below y = 0
 
 -- The LogicKind of the Enum below nested arrays, 0 where there is none. So many types are looked at, 64 in a layout: 63 nested arrays at most pack.
 unfoldable pub logic_leaf : List Ty → ℕ → ℕ → ℕ

@@ -1,8 +1,7 @@
 -- Descriptor size, "has handles" and unfolding of a type (01, "Type table", and ty.rs).
 -- Each goes down levels, of which the first argument says how many are left: 65, for the depths 0 to 64.
 use Rattle.std.specs.Prelude.{ℕ, zero, suc, ◌+◌, ◌*◌, List, [], ◌∷◌, Bool, true, false, ◌||◌, eqb, Option, Some, None, if◌then◌else◌}
-use Rattle.ty.specs.Types.{Ty, Ty.missing, Ty.int, Ty.physical, Ty.enum, Ty.real, Ty.array, Ty.fields, Ty.access, Ty.file, Ty.protected, Field, Field.field, type_at, none as no_const}
-use Rattle.ty.specs.Words.{word_of, on_word, Word}
+use Rattle.ty.specs.Types.{Ty, Ty.missing, Ty.array, Ty.fields, Ty.access, Ty.protected, Field, Field.field, type_at, none as no_const}
 
 -- Bytes of a descriptor (01: "Descriptor size follows ty.rs"): 24 for each dimension, and those of the parts that have no constant; none past depth 64
 -- or at a missing type.
@@ -17,15 +16,9 @@ size_fields next (field t c ∷ fs) = if eqb c no_const then plus (next t) (size
 
 unfoldable pub size_by : (ℕ → Option ℕ) → Ty → Option ℕ
 size_by next missing = None
-size_by next (int lo hi) = Some 0
-size_by next physical = Some 0
-size_by next (enum n l) = Some 0
-size_by next real = Some 0
 size_by next (array e c k) = if eqb c no_const then plus (Some (24 * k)) (next e) else Some (24 * k)
 size_by next (fields fs) = size_fields next fs
-size_by next access = Some 0
-size_by next file = Some 0
-size_by next protected = Some 0
+size_by next scalar = Some 0
 
 unfoldable pub size_at : List Ty → ℕ → ℕ → Option ℕ
 size_at ts zero t = None
@@ -34,37 +27,6 @@ size_at ts (suc n) t = size_by (size_at ts n) (type_at ts t)
 abbrev pub desc_bytes : List Ty → ℕ → Option ℕ
 desc_bytes ts t = size_at ts 65 t
 
--- The same in 64 bits, as the code has it on any table: none also where a sum is past 64 bits, which no checked table has (proofs/Sizes.antt).
-unfoldable pub desc_array : (ℕ → Word) → ℕ → ℕ → ℕ → Word
-desc_array next e c k =
-    on_word None (word_of (24 * k)) (λ h. if eqb c no_const then on_word None (next e) (λ m. word_of (h + m)) else Some h)
-
-unfoldable pub desc_fields : (ℕ → Word) → List Field → ℕ → Word
-desc_fields next [] n = Some n
-desc_fields next (field t c ∷ fs) n =
-    if eqb c no_const
-    then on_word None (next t) (λ m. on_word None (word_of (n + m)) (λ s. desc_fields next fs s))
-    else desc_fields next fs n
-
-unfoldable pub desc_by : (ℕ → Word) → Ty → Word
-desc_by next missing = None
-desc_by next (int lo hi) = Some 0
-desc_by next physical = Some 0
-desc_by next (enum n l) = Some 0
-desc_by next real = Some 0
-desc_by next (array e c k) = desc_array next e c k
-desc_by next (fields fs) = desc_fields next fs 0
-desc_by next access = Some 0
-desc_by next file = Some 0
-desc_by next protected = Some 0
-
-unfoldable pub desc_at : List Ty → ℕ → ℕ → Word
-desc_at ts zero t = None
-desc_at ts (suc n) t = desc_by (desc_at ts n) (type_at ts t)
-
-abbrev pub desc_size : List Ty → ℕ → Word
-desc_size ts t = desc_at ts 65 t
-
 -- whether values of a type can hold handles: a missing type, or one past the last level, counts as one that can
 unfoldable pub any_field : (ℕ → Bool) → List Field → Bool
 any_field next [] = false
@@ -72,15 +34,11 @@ any_field next (field t c ∷ fs) = next t || any_field next fs
 
 unfoldable pub handles_by : (ℕ → Bool) → Ty → Bool
 handles_by next missing = true
-handles_by next (int lo hi) = false
-handles_by next physical = false
-handles_by next (enum n l) = false
-handles_by next real = false
+handles_by next access = true
+handles_by next protected = true
 handles_by next (array e c k) = next e
 handles_by next (fields fs) = any_field next fs
-handles_by next access = true
-handles_by next file = false
-handles_by next protected = true
+handles_by next scalar = false
 
 unfoldable pub handles_at : List Ty → ℕ → ℕ → Bool
 handles_at ts zero t = true
@@ -95,16 +53,9 @@ unfold_fields next [] = 0
 unfold_fields next (field t c ∷ fs) = next t + unfold_fields next fs
 
 unfoldable pub unfold_by : (ℕ → ℕ) → Ty → ℕ
-unfold_by next missing = 0
-unfold_by next (int lo hi) = 0
-unfold_by next physical = 0
-unfold_by next (enum n l) = 0
-unfold_by next real = 0
 unfold_by next (array e c k) = next e
 unfold_by next (fields fs) = unfold_fields next fs
-unfold_by next access = 0
-unfold_by next file = 0
-unfold_by next protected = 0
+unfold_by next y = 0
 
 unfoldable pub unfold_at : List Ty → ℕ → ℕ → ℕ
 unfold_at ts zero t = 0

@@ -6,7 +6,8 @@ ghost use Prim.Native.Nat.{◌+◌, ◌-◌, ◌*◌, ◌/◌, ◌≤◌, ◌<�
 ghost use Rattle.ty.specs.Types.{type_at};
 ghost use Rattle.ty.specs.Words.{word_of, rank, round_up};
 ghost use Rattle.ty.specs.Scalars.{scalar_size, elem_size, logic_leaf};
-ghost use Rattle.ty.specs.Walks.{desc_array, desc_fields, desc_at, desc_size, any_field, handles_at, has_handles};
+ghost use Rattle.ty.specs.Walks.{any_field, handles_at, has_handles};
+ghost use Rattle.ty.specs.DescSize.{desc_array, desc_fields, desc_at, desc_size};
 ghost use Rattle.word.specs.Lists.{all_below};
 ghost use Rattle.ty.specs.Check.{good_type, good_type_at, good_const, good_const_at, small_at, table_good};
 ghost use Rattle.ty.specs.Inner.Bounds.{bound_in, bound_fields, bound_by};

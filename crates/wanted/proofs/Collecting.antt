@@ -14,11 +14,13 @@ use Rattle.heap.specs.Calls.{resolve}
 use Rattle.heap.proofs.Sound.{Sound}
 use Rattle.heap.proofs.Keeping.{live_inside}
 use Rattle.collection.proofs.SweptLaws.{resolved_live}
-use Rattle.collection.specs.Collected.{found, graph, starts, collected}
-use Rattle.collection.specs.Demand.{Collects}
+use Rattle.collection.specs.Collected.{found, graph, starts}
+use Rattle.collection.specs.Collecting.{collected}
+use Rattle.collection.specs.Inner.Collects.{Collects}
 use Rattle.collection.proofs.Answers.{not-both}
 use Rattle.collection.proofs.Demand.{demand, found_ok}
-use Rattle.wanted.specs.Wanted.{Leaves, Rising, Objects, Keeps, Answer}
+use Rattle.wanted.specs.Wanted.{Rising, Objects}
+use Rattle.wanted.specs.Inner.Leaves.{Leaves, Keeps, Answer}
 use Rattle.wanted.specs.Way.{roots_for}
 use Rattle.wanted.specs.Outcome.{handle_at, Outcome, Serves, Best}
 use Rattle.wanted.proofs.Roots.{Right, answer, roots-for, refused-exactly, unique}

@@ -14,7 +14,8 @@ use Rattle.heap_calls.specs.Pins.{rising_from, rising}
 use Rattle.reach.specs.Reach.{Graph, Starts, ◌∈◌}
 use Rattle.reach.proofs.Grown.{∈-get_or, ∈-index}
 use Rattle.wanted.specs.Wanted.{Sorted, Rising}
-use Rattle.wanted.specs.Way.{seen, picked, has, candidates, root_slots, down_from, those}
+use Rattle.wanted.specs.Way.{seen, picked, has, candidates, root_slots}
+use Rattle.wanted.specs.Inner.Picked.{down_from, those}
 use Rattle.wanted.proofs.Counting.{compared}
 use Rattle.wanted.proofs.Picking.{Within}
 use Rattle.wanted.proofs.Testing.{has_in, in-has}

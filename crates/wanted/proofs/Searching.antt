@@ -17,7 +17,8 @@ use Rattle.reach.specs.Reach.{Graph, Starts, ◌∈◌}
 use Rattle.reach.specs.Marking.{State, visit, drained, marking}
 use Rattle.reach.proofs.Grown.{∈-get_or}
 use Rattle.wanted.specs.Wanted.{Rising, Objects}
-use Rattle.wanted.specs.Way.{candidates, root_slots, has, possible, roots_for, down_from, those}
+use Rattle.wanted.specs.Way.{candidates, root_slots, has, possible, roots_for}
+use Rattle.wanted.specs.Inner.Picked.{down_from, those}
 use Rattle.wanted.specs.Search.{Going, going, noted, noting, and_then, meeting, upward, again, downward, as_many, secondly, notes_of, searched_by, searched}
 use Rattle.wanted.proofs.Picking.{Within}
 use Rattle.wanted.proofs.Flags.{rising-at}

@@ -5,7 +5,8 @@ use Rattle.word.specs.Result.{ok}
 use Rattle.handle.specs.Handle.{packed}
 use Rattle.heap.specs.State.{State, slot_at, live}
 use Rattle.reach.specs.Reach.{◌∈◌}
-use Rattle.collection.specs.Collected.{graph, starts, collected}
+use Rattle.collection.specs.Collected.{graph, starts}
+use Rattle.collection.specs.Collecting.{collected}
 use Rattle.wanted.specs.Wanted.{Rising, NotAfter}
 
 -- the handle of slot i

@@ -3,27 +3,25 @@ use mathlib.Core.Path.{◌≡◌, refl, sym, ap, ◌∙◌}
 use mathlib.Core.Bool.{Bool, true, false}
 use mathlib.Core.List.{List, [], ◌∷◌}
 use Prim.Native.Nat.{ℕ}
-use lib.ListN.{length, replicate, length-replicate}
-use lib.Dec.{leb}
 use Rattle.word.proofs.Bools.{and_both}
-use Rattle.refusal.specs.Told.{told, nothing}
+use Rattle.refusal.specs.Told.{told, nothing, Reply}
 use Rattle.refusal.specs.declared.Answer.{Answer}
 use Rattle.refusal.specs.declared.Refusal.{Refusal}
 use Rattle.refusal.specs.declared.Refusal.TheVariants.{TypeTable, Pins}
-use Rattle.refusal.specs.Told.{Reply}
 use Rattle.std.specs.Prelude.{Err}
 use Rattle.ty.specs.Check.{table_good}
 use Rattle.heap.specs.Lent.{Lent, view, slot_count}
 use Rattle.heap_calls.specs.Pins.{rising}
 use Rattle.traced.specs.Listing.{written_to}
 use Rattle.traced.specs.Inner.Lists.{Lists}
-use Rattle.door.specs.HeapCalls.{test, enough, heap_tests, zeros, Entered, asked, asked_of}
-use Rattle.door.specs.HeapCalls.{Entry}
-use Rattle.door.specs.HeapCalls.{ready}
+use Rattle.door.specs.HeapCalls.{test, enough, heap_tests, zeros, asked, asked_of, Entry, ready}
 use Rattle.door.proofs.Entering.{and-holds, and-fails, and-more, holding, marks-zero, work-zero, ask-refused, ask-ready, whether-not, whether-ready, zeros-again, zeros-room}
 use Rattle.wanted_door.specs.Inner.Listing.{CanSearch}
 use Rattle.wanted_door.specs.RootsFor.{root_handles, Given, table_in, wanted_tests, tests, roots_call, roots_out, RightRoots}
 use Rattle.wanted_door.proofs.Theorem.{rightly-found}
+use Rattle.door.specs.Inner.Entered.{Entered}
+use lib.ListN.{length, replicate, length-replicate}
+use lib.Dec.{leb}
 
 -- ---- the ways out of `admit`
 

@@ -17,7 +17,8 @@ use Rattle.handle.specs.Inner.Columns.{live_in}
 use Rattle.heap.proofs.Storing.{map-set}
 use Rattle.trace.specs.Inner.Emit.{Answer, raw_of, queued}
 use Rattle.reach.specs.Reach.{Graph}
-use Rattle.reach.specs.Marking.{State, Good, visit, drained}
+use Rattle.reach.specs.Marking.{State, visit, drained}
+use Rattle.reach.specs.Inner.Good.{Good}
 use Rattle.mark.specs.Inner.Scratch.{low, high, state_of, Scratch, Holds, Traces, NotedBy}
 use Rattle.mark.proofs.Bridge.{queue-met, pin-noted}
 use Rattle.mark.proofs.Draining.{queue-length}

@@ -1,22 +1,11 @@
 -- The ways out of the listing, and of the search on a checked heap. Assumes nothing.
 use Prim.Native.Nat.{ℕ, ◌/◌, ◌≤◌, ◌<◌}
-use mathlib.Core.Path.{◌≡◌, refl, sym, ap, ◌∙◌, subst}
-use mathlib.Core.Bool.{Bool, true, false}
-use mathlib.Core.Logic.{inl, inr}
-use mathlib.Core.List.{List, [], ◌∷◌, map}
-use lib.ListN.{length, get_or, take, replicate, length-map, get_or-map, get_or-eq_default, length-replicate, get_or-replicate}
-use lib.Seq.{length-take-le}
-use lib.Dec.{leb}
-use borrow.Author.Tests.{le-leb, lt-leb}
-use native.Mathlib.Decide.{dec_lt}
-use native.Mathlib.Omega.{arith}
-use Rattle.std.specs.Prelude.{if◌then◌else◌}
+use Rattle.std.specs.Prelude.{if◌then◌else◌, Ok, Err}
 use Rattle.word.specs.Put.{put}
 use Rattle.word.specs.Result.{Result, ok, refused}
 use Rattle.word.proofs.RunLaws.{first-get}
 use Rattle.refusal.specs.declared.Refusal.TheVariants.{ShortList, NoRoots}
 use Rattle.refusal.specs.Told.{Reply}
-use Rattle.std.specs.Prelude.{Ok, Err}
 use Rattle.handle.specs.Handle.{packed}
 use Rattle.ty.specs.Types.{Table}
 use Rattle.heap.specs.declared.Heap.{Heap}
@@ -32,7 +21,6 @@ use Rattle.mark.specs.Inner.Scratch.{high}
 use Rattle.mark.specs.Inner.Told.{starts_of, Ready}
 use Rattle.mark.proofs.Draining.{first-clear}
 use Rattle.mark.proofs.Formed.{formed-fit, formed-few, formed-count, formed-graph, generation-same}
-use Rattle.wanted.specs.Way.{those}
 use Rattle.wanted.specs.Search.{noted, searched}
 use Rattle.wanted.specs.Outcome.{handle_at}
 use Rattle.wanted.proofs.Flags.{rises, those-in}
@@ -41,6 +29,17 @@ use Rattle.wanted.proofs.Searching.{Found, search-found}
 use Rattle.wanted_door.specs.RootsFor.{listed, root_handles}
 use Rattle.wanted_door.specs.Inner.Picking.{notes_if, Inside, Clear}
 use Rattle.wanted_door.specs.Inner.Listing.{handles_in, named_in, CanName, CanSearch}
+use Rattle.wanted.specs.Inner.Picked.{those}
+use mathlib.Core.Path.{◌≡◌, refl, sym, ap, ◌∙◌, subst}
+use mathlib.Core.Bool.{Bool, true, false}
+use mathlib.Core.Logic.{inl, inr}
+use mathlib.Core.List.{List, [], ◌∷◌, map}
+use lib.ListN.{length, get_or, take, replicate, length-map, get_or-map, get_or-eq_default, length-replicate, get_or-replicate}
+use lib.Seq.{length-take-le}
+use lib.Dec.{leb}
+use borrow.Author.Tests.{le-leb, lt-leb}
+use native.Mathlib.Decide.{dec_lt}
+use native.Mathlib.Omega.{arith}
 
 -- ---- the ways out of `name_roots`
 

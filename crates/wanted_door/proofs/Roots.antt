@@ -12,7 +12,7 @@ use Rattle.word.specs.Put.{put}
 use Rattle.word.proofs.PutLaws.{Filling, fill_start, fill-next, fill_stop, fill-length}
 use Rattle.word.proofs.ListLaws.{drop-cons-one}
 use Rattle.handle.specs.Handle.{packed}
-use Rattle.wanted.specs.Way.{those}
+use Rattle.wanted.specs.Inner.Picked.{those}
 use Rattle.wanted_door.specs.Inner.Listing.{handles_in}
 
 -- ---- one slot more

@@ -7,12 +7,13 @@ ghost use Rattle.ty.specs.View.{lent as table_in};
 ghost use Rattle.heap.specs.Lent.{lent};
 ghost use Rattle.heap.specs.Inner.Seen.{seen, state};
 ghost use Rattle.traced.specs.Inner.Lists.{Lists};
-ghost use Rattle.door.specs.HeapCalls.{Entered, entry_of, asked};
+ghost use Rattle.door.specs.HeapCalls.{asked};
 ghost use Rattle.mark.specs.Inner.Scratch.{high};
 ghost use Rattle.wanted.specs.Search.{noted};
-ghost use Rattle.wanted.specs.Way.{those};
 ghost use Rattle.wanted_door.specs.Inner.Listing.{CanName, CanSearch, named_in};
 ghost use Rattle.wanted_door.specs.RootsFor.{root_handles, wanted_tests, roots_call, roots_out, RightRoots};
+ghost use Rattle.door.specs.Inner.Entered.{Entered, entry_of};
+ghost use Rattle.wanted.specs.Inner.Picked.{those};
 
 use heap::Heap;
 use heap::view::View;

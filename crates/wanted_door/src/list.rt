@@ -3,7 +3,7 @@ ghost use Rattle.std.specs.Prelude.{◌≡◌, map, ◌≤◌, ◌<◌, length};
 ghost use Rattle.mark.specs.Inner.Scratch.{high};
 ghost use Rattle.word.specs.Put.{put};
 ghost use Rattle.wanted.specs.Search.{noted};
-ghost use Rattle.wanted.specs.Way.{those};
+ghost use Rattle.wanted.specs.Inner.Picked.{those};
 ghost use Rattle.wanted_door.specs.Inner.Picking.{Inside};
 ghost use Rattle.wanted_door.specs.Inner.Listing.{CanName, handles_in};
 

@@ -8,15 +8,15 @@ use native.Mathlib.Omega.{arith}
 use Rattle.word.specs.Lists.{tabulate}
 use Rattle.word.proofs.Bools.{and_both}
 use Rattle.word.proofs.ListLaws.{length-tabulate, get_d_tabulate}
-use Rattle.text.specs.Text.{Bytes}
-use Rattle.text.specs.Format.{All}
+use Rattle.text.specs.Text.{Bytes, All}
 use Rattle.word.specs.Run.{run}
 use Rattle.heap.specs.State.{no_slot}
 use Rattle.heap.specs.Packing.{start_of, data_at}
 use Rattle.heap.proofs.Sound.{SlotSound, Sound}
 use Rattle.heap.proofs.Testing.{formed-tested}
 use Rattle.heap.specs.Lent.{Lent, slot_in, stored, view, slot_count, pool_size}
-use Rattle.heap.specs.WellFormed.{sound, fits, same_lent, well_formed}
+use Rattle.heap.specs.WellFormed.{sound, fits, well_formed}
+use Rattle.heap.specs.Same.{same_lent}
 use Rattle.pages.specs.Form.{written}
 use Rattle.pages.specs.Page.{SlotWithin, Within, page_text}
 use Rattle.pages.specs.Inner.Columns.{Ready}

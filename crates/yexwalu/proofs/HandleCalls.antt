@@ -3,18 +3,18 @@ use mathlib.Core.Path.{◌≡◌, sym, ap, ◌∙◌}
 use mathlib.Core.Bool.{Bool, true, false}
 use mathlib.Core.List.{List}
 use Prim.Native.Nat.{ℕ}
-use lib.ListN.{length}
 use Rattle.word.specs.Result.{Result}
-use Rattle.refusal.specs.Told.{told, answered, refused_by, nothing}
+use Rattle.refusal.specs.Told.{told, answered, refused_by, nothing, Reply}
 use Rattle.refusal.specs.declared.Answer.{Answer}
-use Rattle.refusal.specs.Told.{Reply}
 use Rattle.ty.specs.Check.{table_good}
 use Rattle.traced.specs.Listing.{written_to}
 use Rattle.traced.specs.Inner.Lists.{Lists}
-use Rattle.frame.specs.Listing.{Roots, Frames, handles_to, addresses_to}
+use Rattle.frame.specs.Listing.{Roots, handles_to, addresses_to}
 use Rattle.yexwalu.specs.Table.{on_table}
 use Rattle.yexwalu.specs.Handles.{HandlesCall, RootsCall}
 use Rattle.yexwalu.proofs.TableCalls.{table-bad, table-good}
+use Rattle.frame.specs.Inner.Frames.{Frames}
+use lib.ListN.{length}
 
 abbrev counts : Result Roots → Answer
 counts = answered (λ c. length c.handles) (λ c. length c.addresses)

@@ -11,10 +11,12 @@ use Rattle.word.specs.Result.{Result, ok, refused}
 use Rattle.refusal.specs.Told.{told as told_reply, answered, refused_by, here, nothing}
 use Rattle.refusal.specs.declared.Answer.{Answer}
 use Rattle.ty.specs.Check.{table_good}
-use Rattle.ty.specs.Walks.{desc_size, desc_bytes, has_handles}
+use Rattle.ty.specs.Walks.{desc_bytes, has_handles}
+use Rattle.ty.specs.DescSize.{desc_size}
 use Rattle.ty.specs.View.{types_of, table_of}
 use Rattle.ty.proofs.Sizes.{exact}
-use Rattle.layout.specs.Offsets.{Values, told, layout_call, written_by}
+use Rattle.layout.specs.Offsets.{Values, layout_call, written_by}
+use Rattle.layout.specs.Inner.Told.{told}
 use Rattle.yexwalu.specs.Table.{on_table}
 use Rattle.yexwalu.specs.Types.{laid, layout_called, sized, size_called, handles_called}
 use Rattle.held_types.specs.declared.Laying.{Laying as LayoutAnswer}

@@ -3,7 +3,8 @@ use Rattle.std.specs.Prelude.{◌≡◌, ℕ}
 use Rattle.heap.specs.State.{State}
 use Rattle.heap.specs.Lent.{Lent, lent, view}
 use Rattle.refusal.specs.Told.{Reply}
-use Rattle.heap.specs.Done.{Leaves, Tells}
+use Rattle.heap.specs.Done.{Leaves}
+use Rattle.heap.specs.Inner.Tells.{Tells}
 use Rattle.heap.specs.Calls.{Changed}
 use Rattle.heap.specs.declared.view_mut.ViewMut.{ViewMut}
 

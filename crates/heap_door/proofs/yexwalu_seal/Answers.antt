@@ -4,7 +4,8 @@ use Rattle.refusal.specs.Told.{nothing}
 use Rattle.std.specs.Prelude.{Ok}
 use Rattle.heap.specs.Calls.{seal}
 use Rattle.heap_door.specs.Sealing.{sealing}
-use Rattle.heap.specs.Done.{Leaves, Tells}
+use Rattle.heap.specs.Done.{Leaves}
+use Rattle.heap.specs.Inner.Tells.{Tells}
 use Rattle.heap.specs.Lent.{Lent, lent, view}
 use Rattle.door.proofs.Entering.{entered, call-refused, call-ready}
 use Rattle.heap_door.proofs.yexwalu_seal.Goals as goal

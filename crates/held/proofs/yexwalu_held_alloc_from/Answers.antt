@@ -2,7 +2,7 @@
 use Rattle.std.proofs.Common.{◌/◌, length, refl, rules}
 use Rattle.refusal.specs.Told.{here, nothing}
 use Rattle.heap.specs.Lent.{Lent, lent, view}
-use Rattle.heap.specs.Done.{Tells}
+use Rattle.heap.specs.Inner.Tells.{Tells}
 use Rattle.object_door.specs.ObjectCalls.{allocating}
 use Rattle.held.proofs.Holding.{formed, holds}
 use Rattle.held.proofs.yexwalu_held_alloc_from.Goals as goal

@@ -1,7 +1,7 @@
 -- `held::yexwalu_held_take` meets its contract.
 use Rattle.std.proofs.Common.{refl, rules}
 use Rattle.heap.specs.Lent.{Lent, lent}
-use Rattle.heap_calls.specs.Objects.{TakeDoes}
+use Rattle.heap_calls.specs.Inner.Takes.{TakeDoes}
 use Rattle.held.proofs.Holding.{formed, holds-take}
 use Rattle.held.proofs.yexwalu_held_take.Goals as goal
 

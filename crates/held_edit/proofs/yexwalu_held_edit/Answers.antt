@@ -5,7 +5,7 @@ use Rattle.std.proofs.Common.{rules}
 use Rattle.refusal.specs.Told.{here, nothing}
 use Rattle.heap.specs.Lent.{Lent, lent, view}
 use Rattle.heap.specs.Calls.{edit}
-use Rattle.heap.specs.Done.{Tells}
+use Rattle.heap.specs.Inner.Tells.{Tells}
 use Rattle.held.proofs.Holding.{formed, holds}
 use Rattle.held_edit.proofs.yexwalu_held_edit.Goals as goal
 

@@ -2,7 +2,7 @@
 use Rattle.std.proofs.Common.{refl, rules}
 use Rattle.refusal.specs.Told.{nothing}
 use Rattle.heap.specs.Lent.{Lent, lent, view}
-use Rattle.heap.specs.Done.{Tells}
+use Rattle.heap.specs.Inner.Tells.{Tells}
 use Rattle.heap.specs.Calls.{free}
 use Rattle.held.proofs.Holding.{formed, holds}
 use Rattle.held_edit.proofs.yexwalu_held_free.Goals as goal

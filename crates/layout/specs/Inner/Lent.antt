@@ -7,7 +7,8 @@ use Rattle.ty.specs.View.{entry_at, lent, fields_from}
 use Rattle.ty.specs.declared.Table.{Table}
 use Rattle.ty.specs.declared.Entry.TheVariants.{Record}
 use Rattle.layout.specs.Layout.{Lay, under, array_of, record_of, layout_at}
-use Rattle.layout.specs.Offsets.{offsets_from, told, listed_in, written_by}
+use Rattle.layout.specs.Offsets.{offsets_from, listed_in, written_by}
+use Rattle.layout.specs.Inner.Told.{told}
 use Rattle.layout.specs.declared.Layout.{Layout}
 
 module _ (T : Table) where

@@ -2,7 +2,8 @@
 use Rattle.trace.specs.Inner.Emit.{Answer}
 use Rattle.std.specs.Prelude.{Some, None, ℕ, ◌≤◌, ◌/◌, ◌%◌, ◌^◌, ◌≡◌, Bool, List, ◌++◌, map, length, take}
 use Rattle.std.proofs.Math.Option.{Option, none, some}
-use Rattle.reach.specs.Marking.{State, Good, follow_all, pin_all}
+use Rattle.reach.specs.Marking.{State, follow_all, pin_all}
+use Rattle.reach.specs.Inner.Good.{Good}
 
 -- the lower half of a word, where the queue stands, and the upper half, where a call notes something of a slot
 abbrev pub low : ℕ → ℕ

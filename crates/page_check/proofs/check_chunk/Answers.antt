@@ -3,16 +3,16 @@ use Rattle.page_check.proofs.Rules.{agree-next, agree-done}
 use Rattle.page_parser.proofs.Reading.{line-found, line-lost}
 use Rattle.page_parser.specs.Inner.Slots.{slots_at}
 use Rattle.pages.proofs.Writing.{blank}
-use Rattle.pages.specs.Page.{slot_format}
 use Rattle.heap.specs.State.{Slot, bit}
 use Rattle.text.specs.Format.{read_all}
-use Rattle.text.specs.Text.{give}
+use Prim.Native.Nat.{ℕ}
+use Rattle.pages.specs.Reading.{slot_format}
+use Rattle.text.specs.Reading.{give}
 use lib.ListN.{drop}
 use native.Mathlib.Nat.{sub-zero}
 use native.Mathlib.Omega.{arith}
 use mathlib.Core.Path.{refl, sym, ap, ◌∙◌}
 use mathlib.Core.Bool.{true}
-use Prim.Native.Nat.{ℕ}
 use Rattle.page_check.proofs.check_chunk.Goals as goal
 
 pub loop-i-init : goal.loop-i-init

@@ -1,13 +1,13 @@
 use Rattle.page_check.specs.Inner.Rules.{agree}
 use Rattle.page_parser.specs.Inner.Slots.{slots_at}
-use Rattle.pages.specs.Page.{slot_format}
 use Rattle.text.specs.Format.{read_all}
-use Rattle.text.specs.Text.{give}
+use Prim.Native.Nat.{ℕ, ◌-◌, ◌≤◌}
+use Rattle.pages.specs.Reading.{slot_format}
+use Rattle.text.specs.Reading.{give}
 use lib.ListN.{length, drop}
 use mathlib.Core.Path.{◌≡◌}
 use mathlib.Core.Bool.{true, ◌&&◌}
 use mathlib.Core.List.{List}
-use Prim.Native.Nat.{ℕ, ◌-◌, ◌≤◌}
 use Rattle.page_check.proofs.check_chunk.Given as goal
 
 abbrev pub invariant-loop-i : goal.invariant-loop-i

@@ -1,12 +1,12 @@
 use Rattle.page_parser.specs.Inner.Values.{values_at}
 use Rattle.page_check.specs.Inner.Marks.{Marked}
 use Rattle.text.specs.Format.{number, read_all}
-use Rattle.text.specs.Text.{give}
+use Prim.Native.Nat.{ℕ, ◌-◌, ◌≤◌}
+use Rattle.text.specs.Reading.{give}
 use lib.ListN.{length, drop, take}
 use mathlib.Core.Path.{◌≡◌}
 use mathlib.Core.Bool.{true}
 use mathlib.Core.List.{List}
-use Prim.Native.Nat.{ℕ, ◌-◌, ◌≤◌}
 use Rattle.page_check.proofs.mark.Given as goal
 
 abbrev pub invariant-loop-i : goal.invariant-loop-i

@@ -1,13 +1,13 @@
 -- What is asked of each slot of a page, by its lines and by the lists that it stands in.
 use Rattle.std.specs.Prelude.{ℕ, ◌+◌, ◌≤◌, List, [], ◌∷◌, ◌++◌, ◌≡◌, Bool, true, false, not, ◌&&◌, ◌||◌, eqb, ltb, length, drop, if◌then◌else◌}
 use Rattle.heap.specs.State.{Slot, State, times, last_generation}
-use Rattle.text.specs.Text.{give}
 use Rattle.text.specs.Format.{read_all}
 use Rattle.pages.specs.Page.{slot_format}
 use Rattle.page_parser.specs.Inner.Slots.{slots_at}
 use Rattle.page_check.specs.Inner.Marks.{marked}
 use Rattle.page_check.specs.declared.Rule.{Rule}
 use Rattle.page_check.specs.declared.Rule.TheVariants.{Once, Young, Worn}
+use Rattle.text.specs.Reading.{give}
 
 -- what a slot's count is to be: live slots stand in no list, dead ones once
 abbrev pub expected : ℕ → ℕ

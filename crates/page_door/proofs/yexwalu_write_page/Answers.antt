@@ -1,5 +1,5 @@
 use mathlib.Core.Path.{ap}
-use Rattle.door.specs.HeapCalls.{entry_of}
+use Rattle.door.specs.Inner.Entered.{entry_of}
 use Rattle.heap.specs.Lent.{lent}
 use Rattle.page_door.proofs.Paging.{write-refused, write-seen}
 use Rattle.page_door.proofs.yexwalu_write_page.Goals as goal

@@ -1,14 +1,14 @@
 use mathlib.Core.Path.{refl}
 use Rattle.page_parser.proofs.Reading.{slots-begin, slots-lost, slots_next, slots-done, line-found, line-lost}
+use Rattle.page_parser.specs.Inner.Answer.{slots_more}
+use Rattle.text.specs.Format.{read_all}
+use Prim.Native.Nat.{ℕ}
+use Rattle.pages.specs.Reading.{slot_format}
 use native.Mathlib.Nat.{sub-zero}
 use mathlib.Core.Bool.{true}
-use Rattle.page_parser.specs.Inner.Answer.{slots_more}
-use Rattle.pages.specs.Page.{slot_format}
-use Rattle.text.specs.Format.{read_all}
 use lib.ListN.{length, drop}
 use native.Mathlib.Omega.{arith}
 use mathlib.Core.Path.{sym, ap, ◌∙◌}
-use Prim.Native.Nat.{ℕ}
 use Rattle.page_parser.proofs.check_slots.Goals as goal
 
 pub loop-i-init : goal.loop-i-init

@@ -1,9 +1,9 @@
 use Rattle.page_parser.specs.Inner.Answer.{slots_answer, slots_more}
-use Rattle.pages.specs.Page.{slot_format}
 use Rattle.text.specs.Format.{read_all}
+use Prim.Native.Nat.{◌-◌, ◌≤◌}
+use Rattle.pages.specs.Reading.{slot_format}
 use lib.ListN.{length, drop}
 use mathlib.Core.Path.{◌≡◌}
-use Prim.Native.Nat.{◌-◌, ◌≤◌}
 use Rattle.page_parser.proofs.check_slots.Given as goal
 
 abbrev pub invariant-loop-i : goal.invariant-loop-i

@@ -1,16 +1,16 @@
 -- What the code answers for what a reader gives.
 use Rattle.std.specs.Prelude.{ℕ, ◌+◌, ◌-◌, List, Bool, ◌&&◌, ◌||◌, leb, ltb, eqb, length, Option, Some, None}
-use mathlib.Core.Option as maybe
-use mathlib.Core.Option.{none, some}
 use Rattle.word.specs.Lists.{all}
 use Rattle.heap.specs.State.{data_size, Slot}
 use Rattle.heap.specs.WellFormed.{sound_slot, sound_seals}
 use Rattle.handle.specs.Handle.{tag_of, index_of, generation_of}
-use Rattle.pages.specs.Page.{Head}
 use Rattle.page_parser.specs.declared.SlotRead.{SlotRead}
 use Rattle.page_parser.specs.declared.HeadRead.{HeadRead}
 use Rattle.page_parser.specs.declared.Values.{Values}
 use Rattle.page_parser.specs.declared.SlotLines.{SlotLines}
+use Rattle.pages.specs.Reading.{Head}
+use mathlib.Core.Option as maybe
+use mathlib.Core.Option.{none, some}
 
 abbrev pub slot_answer : (len : ℕ) → maybe.Option (Slot × List ℕ) → Option SlotRead
 slot_answer len none = None

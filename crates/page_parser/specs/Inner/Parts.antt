@@ -2,12 +2,11 @@
 use Rattle.std.specs.Prelude.{ℕ, ◌≤◌, List, Bool, ◌⊎◌, ◌≡◌, length, drop, Option, Some, None}
 use Rattle.std.proofs.Math.Option.{none, some}
 use Rattle.word.specs.Lists.{all}
-use Rattle.text.specs.Text.{give, Reader, read_literal}
+use Rattle.text.specs.Text.{read_literal}
 use Rattle.text.specs.Format.{Format, number, read_all}
 use Rattle.heap.specs.State.{Slot, data_size}
 use Rattle.heap.specs.WellFormed.{sound_slot}
-use Rattle.pages.specs.Form.{heap_front, retired_too, no_retired, names, slot_named}
-use Rattle.pages.specs.Page.{Head, head_format, slot_format, retired_format}
+use Rattle.pages.specs.Form.{heap_front, retired_too, no_retired}
 use Rattle.page_parser.specs.declared.HeadRead.{HeadRead}
 use Rattle.page_parser.specs.Inner.Answer.{values_of}
 use Rattle.page_parser.specs.declared.Values.{Values}
@@ -15,6 +14,8 @@ use Rattle.page_parser.specs.declared.SlotNames.{SlotNames}
 use Rattle.page_parser.specs.declared.SlotSection.{SlotSection}
 use Rattle.page_parser.specs.declared.ListSection.{ListSection}
 use Rattle.page_parser.specs.declared.Sections.{Sections}
+use Rattle.text.specs.Reading.{give, Reader}
+use Rattle.pages.specs.Reading.{names, slot_named, Head, head_format, slot_format, retired_format}
 
 -- a part is not there: its name is not, or what is to follow it
 abbrev pub Missing : {A : Type 0} (name : List ℕ) → Reader A → (s : List ℕ) (at : ℕ) → Type 0

@@ -1,14 +1,15 @@
 -- What the parser finds in a text.
 use Rattle.std.specs.Prelude.{ℕ, ◌≤◌, List, [], ◌++◌, map, Bool, false, ◌&&◌, ◌≡◌, ltb, length, Option, Some, None}
-use mathlib.Core.Option.{none, some}
 use Rattle.word.specs.Lists.{all}
 use Rattle.heap.specs.State.{State, data_size}
 use Rattle.heap.specs.WellFormed.{sound_slot, sound_seals, sound_reclaim}
-use Rattle.pages.specs.Page.{out_of_column, read_page, brought}
+use Rattle.pages.specs.Page.{brought}
 use Rattle.page_parser.specs.Contents.{heap_in, form_in}
 use Rattle.page_parser.specs.Inner.Values.{values_at, ValuesParsed}
 use Rattle.page_parser.specs.Inner.Slots.{slots_at, SlotsParsed}
 use Rattle.page_parser.specs.declared.Sections.{Sections}
+use Rattle.pages.specs.Reading.{out_of_column, read_page}
+use mathlib.Core.Option.{none, some}
 
 -- the heap that the page brings
 abbrev pub brought_in : List ℕ → State

@@ -1,10 +1,10 @@
 -- The slots whose lines stand in a text, as they stand: their bytes are those of the column, planes or data. A line with a write count of 32 bits is read alike as one of 64.
 use Rattle.std.specs.Prelude.{ℕ, List, [], ◌≡◌, true, drop}
 use Rattle.std.proofs.Math.Option.{none, some}
-use Rattle.text.specs.Text.{give}
 use Rattle.text.specs.Format.{read_all}
 use Rattle.heap.specs.State.{Slot}
-use Rattle.pages.specs.Page.{slot_format}
+use Rattle.text.specs.Reading.{give}
+use Rattle.pages.specs.Reading.{slot_format}
 
 -- the slots whose lines stand in a text from `at` on
 unfoldable pub slots_at : List ℕ → (at count : ℕ) → List Slot

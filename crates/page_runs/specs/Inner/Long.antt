@@ -2,7 +2,8 @@
 use Rattle.std.specs.Prelude.{ℕ, ◌^◌, ◌≤◌, ◌<◌, Bool, true, ◌&&◌, ◌||◌, List, ◌++◌, ◌≡◌, leb, length, take, get_or}
 use Rattle.std.specs.Prelude.{Option as Maybe, Some, None}
 use Rattle.std.proofs.Math.Option.{Option, none}
-use Rattle.text.specs.Text.{◌>>=◌, ascii, newline, comma, read_literal}
+use Rattle.text.specs.Text.{ascii, newline, comma, read_literal}
+use Rattle.text.specs.Reading.{◌>>=◌}
 use Rattle.text.specs.Format.{number}
 use Rattle.heap.specs.State.{State}
 use Rattle.heap.specs.Calls.{refuse}

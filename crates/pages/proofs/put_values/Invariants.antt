@@ -1,5 +1,5 @@
 use Rattle.pages.specs.Page.{value_line}
-use Rattle.text.specs.Put.{Puts}
+use Rattle.text.specs.Inner.Puts.{Puts}
 use lib.ListN.{length, take}
 use mathlib.Core.List.{flat_map}
 use mathlib.Core.Path.{◌≡◌}

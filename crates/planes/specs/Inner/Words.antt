@@ -1,23 +1,8 @@
--- A column byte by byte: what the writer's loops put. Byte j of word i's difference stands at place i of plane j.
-use Rattle.std.specs.Prelude.{ℕ, zero, suc, ◌*◌, ◌/◌, ◌%◌, ◌^◌, List, take, drop}
-use Rattle.word.specs.Le.{le}
+-- One plane of a column: what the writer's loops put.
+use Rattle.std.specs.Prelude.{ℕ, List}
 use Rattle.word.specs.Lists.{tabulate}
-use Rattle.planes.specs.Planes.{count, less}
-
--- Word i, the word before it, and how they differ
-abbrev pub word_at : (k : ℕ) → List ℕ → ℕ → ℕ
-word_at k l i = le (take k (drop (i * k) l))
-
-abbrev pub before : (k b : ℕ) → List ℕ → ℕ → ℕ
-before k b l zero = b
-before k b l (suc i) = word_at k l i
-
-abbrev pub difference : (k : ℕ) → List ℕ → ℕ → ℕ
-difference k l i = less k (word_at k l i) (before k 0 l i)
-
--- byte j of each word's difference
-abbrev pub plane_byte : (k : ℕ) → List ℕ → (j i : ℕ) → ℕ
-plane_byte k l j i = difference k l i / 256 ^ j % 256
+use Rattle.planes.specs.Planes.{count}
+use Rattle.planes.specs.Words.{plane_byte}
 
 abbrev pub plane : (k : ℕ) → List ℕ → ℕ → List ℕ
 plane k l j = tabulate (count k l) (plane_byte k l j)

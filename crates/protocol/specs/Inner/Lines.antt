@@ -4,7 +4,7 @@ use denote.Ref.{Bor}
 use mathlib.Core.Option as maybe
 use mathlib.Core.Option.{none, some}
 use Rattle.std.specs.Prelude.{Result, Ok, Err}
-use Rattle.text.specs.Text.{read_decimal, byte_of}
+use Rattle.text.specs.Reading.{read_decimal, byte_of}
 use Rattle.protocol.specs.declared.Fault.{Fault}
 use Rattle.protocol.specs.declared.Fault.TheVariants.{Bad}
 

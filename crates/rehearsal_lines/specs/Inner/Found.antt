@@ -2,7 +2,7 @@
 use Rattle.std.specs.Prelude.{ℕ, ◌≤◌, List, ◌≡◌, length, drop as skip, Option, Some, None}
 use Rattle.std.proofs.Math.Option as maybe
 use Rattle.std.proofs.Math.Option.{none}
-use Rattle.text.specs.Text.{give}
+use Rattle.text.specs.Reading.{give}
 use Rattle.text.specs.Inner.Answer.{hex_at}
 use Rattle.script.specs.Inner.Found.{DataThere}
 use Rattle.script.specs.declared.AllocLine.{AllocLine}

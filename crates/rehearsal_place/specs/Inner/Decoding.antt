@@ -7,7 +7,8 @@ use Rattle.heap.specs.State.{Slot, State, slot_at, live}
 use Rattle.heap.specs.Lent.{Lent, view, slot_count, pool_size}
 use Rattle.heap.specs.WellFormed.{well_formed}
 use Rattle.heap.specs.Calls.{alloc_from, with_slot}
-use Rattle.heap.specs.Done.{Leaves, Tells}
+use Rattle.heap.specs.Done.{Leaves}
+use Rattle.heap.specs.Inner.Tells.{Tells}
 use Rattle.heap.specs.Inner.Loans.{lies, state, Replies}
 use Rattle.heap.specs.declared.view_mut.ViewMut.{ViewMut}
 

@@ -6,7 +6,7 @@ use Rattle.std.proofs.Common.{length, rules}
 use Rattle.text.specs.Inner.Answer.{hex_at}
 use Rattle.refusal.specs.Told.{here, nothing}
 use Rattle.heap.specs.Lent.{Lent, lent, view}
-use Rattle.heap.specs.Done.{Tells}
+use Rattle.heap.specs.Inner.Tells.{Tells}
 use Rattle.object_door.specs.ObjectCalls.{allocating}
 use Rattle.rehearsal_steps.proofs.Placed.{can-hold, sum_room, place-refused, place-held}
 use Rattle.rehearsal_steps.proofs.allocate.Goals as goal

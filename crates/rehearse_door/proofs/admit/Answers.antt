@@ -1,7 +1,7 @@
 -- `rehearse_door::admit` meets its contract.
 use lib.ListN.{length}
 use Rattle.rehearse_door.proofs.Admitting.{few_words, few-scratch, no_text, no-sizes, no_table, no_output, all_there}
-use Rattle.rehearse_door.specs.Rehearse.{given}
+use Rattle.rehearse_door.specs.Inner.Given.{given}
 use Rattle.rehearse_door.proofs.admit.Goals as goal
 
 pub returns-then-words-slots : goal.returns-then-words-slots

@@ -1,7 +1,7 @@
 -- What the inner functions ensure of the scratch. Block b has three rows of W words at b * (3 * W): live-in, kill, and one whose first word is the block
 -- that follows in the code. After the rows of the last block come the row in which the live-out of one block is gathered, and a row of zeros.
 use Rattle.std.specs.Prelude.{◌≡◌, ◌⊎◌, Bool, true, false, ◌&&◌, ◌||◌, List, [], ◌∷◌, ℕ, ◌+◌, ◌*◌, ◌/◌, ◌%◌, ◌≤◌, ◌<◌, length, get_or, take, ltb, eqb, if◌then◌else◌}
-use Rattle.word.specs.Bit.{bit}
+use Rattle.word.specs.Inner.Bit.{bit}
 use Rattle.word.specs.Lists.{tabulate}
 use Rattle.rows.specs.Inner.Row.{bit_in, listed}
 use Rattle.flow.specs.Function.{Function, first_at}

@@ -1,6 +1,6 @@
 use Rattle.std.proofs.Common.{ℕ, ◌/◌, ◌%◌, ◌^◌, eqb, ap, ◌∙◌}
 use lib.Bits.{and_mask}
-use Rattle.word.specs.Bit.{bit}
+use Rattle.word.specs.Inner.Bit.{bit}
 use Rattle.rows.specs.Inner.Row.{bit_in}
 use Rattle.rows.proofs.test_bit.Goals as goal
 

@@ -1,6 +1,7 @@
 -- A row that is being listed, at position `at`: `rest` are the bits of its word from there on that were not taken yet, bit 0 that of `at`. For any word width W.
 use Rattle.std.specs.Prelude.{◌≡◌, Bool, true, List, ◌++◌, ℕ, ◌+◌, ◌-◌, ◌*◌, ◌/◌, ◌%◌, ◌^◌, ◌≤◌, ◌<◌, length}
-use Rattle.word.specs.Ones.{keep, passing, ones_from}
+use Rattle.word.specs.Ones.{keep, passing}
+use Rattle.word.specs.Inner.Ones.{ones_from}
 use Rattle.rows.specs.Inner.Row.{bit_in}
 
 -- the set bits that are left: those of `rest`, then those of the words after it

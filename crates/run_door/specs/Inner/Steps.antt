@@ -9,7 +9,8 @@ use Rattle.heap.specs.Lent.{Lent, view, slot_count, pool_size}
 use Rattle.heap.specs.Done.{Leaves}
 use Rattle.heap.specs.Inner.Loans.{lies, SameLoans}
 use Rattle.heap.specs.declared.view_mut.ViewMut.{ViewMut}
-use Rattle.script.specs.Script.{Call, line_does}
+use Rattle.script.specs.Script.{line_does}
+use Rattle.script.specs.Calls.{Call}
 
 -- a reply without its values
 abbrev pub end_of : Reply → Result Unit

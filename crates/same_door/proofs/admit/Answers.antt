@@ -1,7 +1,7 @@
 -- `same_door::admit` meets its contract.
 use Rattle.std.proofs.Common.{ap}
 use Rattle.std.proofs.lemmas.Result.{err_from_is_err_and}
-use Rattle.door.specs.HeapCalls.{entry_of}
+use Rattle.door.specs.Inner.Entered.{entry_of}
 use Rattle.same_door.specs.Inner.Given.{memory_of}
 use Rattle.same_door.proofs.Telling.{not_entered, no_table, all-entered}
 use Rattle.same_door.proofs.admit.Goals as goal

@@ -5,7 +5,7 @@ use Rattle.std.proofs.lemmas.Result.{err_from_is_err_and, IfOk-at_ok}
 use Rattle.heap.specs.Lent.{Lent, view}
 use Rattle.heap.specs.Inner.Seen.{seen}
 use Rattle.ty.specs.View.{lent}
-use Rattle.door.specs.HeapCalls.{entry_of}
+use Rattle.door.specs.Inner.Entered.{entry_of}
 use Rattle.saves.specs.Saves.{ordering}
 use Rattle.compare_heaps.specs.Inner.Compared.{compared_by, CanMark}
 use Rattle.same_door.specs.Inner.Given.{memory_of, words_in, given_save}

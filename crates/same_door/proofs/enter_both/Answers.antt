@@ -2,7 +2,7 @@
 use Rattle.std.proofs.Common.{◌≡◌, ap}
 use Rattle.std.proofs.lemmas.Result.{err_from_is_err_and, IfOk-at_ok}
 use Rattle.heap.specs.Inner.Seen.{seen}
-use Rattle.door.specs.HeapCalls.{entry_of}
+use Rattle.door.specs.Inner.Entered.{entry_of}
 use Rattle.same_door.specs.Inner.Given.{memory_of}
 use Rattle.same_door.proofs.Entering.{found-as, first_short, other-short, first-broken, both-entered}
 use Rattle.same_door.proofs.enter_both.Goals as goal

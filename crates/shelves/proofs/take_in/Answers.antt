@@ -1,6 +1,6 @@
 -- `shelves::take_in` meets its contract, by where the run stands.
 use mathlib.Core.Path.{refl, subst}
-use Rattle.shelves.specs.Inner.Steps.{GoodAt}
+use Rattle.shelves.specs.Steps.{GoodAt}
 use Rattle.shelves.proofs.Taking.{takes_at, takes-over}
 use Rattle.shelves.proofs.take_in.Goals as goal
 

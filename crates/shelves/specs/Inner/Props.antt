@@ -3,7 +3,7 @@ use Rattle.std.proofs.Props.{props}
 use Rattle.shelves.specs.declared.At.{At}
 use Rattle.shelves.specs.declared.At.TheVariants.{Line, Page, Passing, Over}
 use Rattle.shelves.specs.declared.Shelf.{Shelf}
-use Rattle.shelves.specs.Inner.Steps.{GoodAt, Good}
+use Rattle.shelves.specs.Steps.{GoodAt, Good}
 
 good_at_prop : (at : At) → IsProp (GoodAt at)
 good_at_prop (Line k n) = hlevel props

@@ -2,7 +2,7 @@
 use Rattle.std.proofs.Common.{ap}
 use Rattle.std.proofs.lemmas.Result.{err_from_is_err_and}
 use Rattle.heap.specs.Lent.{lent}
-use Rattle.door.specs.HeapCalls.{entry_of}
+use Rattle.door.specs.Inner.Entered.{entry_of}
 use Rattle.slot_door.proofs.SlotCalls.{not_entered, no_table, all-entered}
 use Rattle.slot_door.proofs.admit.Goals as goal
 

@@ -3,7 +3,7 @@ use Rattle.std.proofs.Common.{◌≡◌, ap}
 use Rattle.std.proofs.lemmas.Result.{IfOk-at_ok}
 use Rattle.heap.specs.Lent.{lent}
 use Rattle.heap.specs.Inner.Seen.{seen}
-use Rattle.door.specs.HeapCalls.{entry_of}
+use Rattle.door.specs.Inner.Entered.{entry_of}
 use Rattle.slot_door.proofs.SlotCalls.{slot-refused, slot-done}
 use Rattle.slot_door.proofs.yexwalu_slot_handles.Goals as goal
 

@@ -3,7 +3,7 @@ use Rattle.std.proofs.Common.{◌≡◌, ap, sym, ◌∙◌}
 use Rattle.std.proofs.lemmas.Result.{IfOk-at_ok}
 use Rattle.heap.specs.Lent.{lent}
 use Rattle.heap.specs.Inner.Seen.{seen}
-use Rattle.door.specs.HeapCalls.{entry_of}
+use Rattle.door.specs.Inner.Entered.{entry_of}
 use Rattle.refusal.specs.declared.Answer.{Answer}
 use Rattle.slot_door.specs.Traceable.{misfit_told}
 use Rattle.slot_door.specs.Inner.Misfit.{misfit_in}

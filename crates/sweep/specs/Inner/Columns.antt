@@ -6,7 +6,7 @@ use Rattle.heap.specs.Inner.Columns.{datas, Packed}
 use Rattle.heap.specs.State.{State, last_generation}
 use Rattle.heap.specs.Calls.{step}
 use Rattle.heap.specs.Lent.{Lent, columns, column, header_of, slot_count}
-use Rattle.heap.specs.Header.{set_free, set_retired, set_changed}
+use Rattle.heap.specs.Inner.Header.{set_free, set_retired, set_changed}
 use Rattle.heap.specs.WellFormed.{well_formed}
 use Rattle.heap.specs.declared.Heap.{Heap}
 

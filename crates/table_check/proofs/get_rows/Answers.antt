@@ -2,7 +2,7 @@ use mathlib.Core.Path.{sym, ◌∙◌}
 use Rattle.pages.proofs.Numbers.{numbers-length}
 use native.Mathlib.Omega.{arith}
 use lib.ListN.{drop}
-use Rattle.tables.specs.Table.{read_name}
+use Rattle.tables.specs.Reading.{read_name}
 use Rattle.tables.proofs.Endings.{lost}
 use Rattle.tables.proofs.Naming.{name-found, name-long}
 use Rattle.table_check.proofs.Lining.{lining-begin, lining-room, lining-numbers-lost, lining-name-lost, lining-on, lining-next, lining-end}

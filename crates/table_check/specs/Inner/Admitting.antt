@@ -3,7 +3,7 @@ use Rattle.std.specs.Prelude.{List, ◌≡◌, ℕ}
 use Rattle.word.specs.Result.{ok, refused}
 use Rattle.refusal.specs.Told.{number_of}
 use Rattle.refusal.specs.declared.Refusal.{Refusal}
-use Rattle.tables.specs.Table.{read_table}
+use Rattle.tables.specs.Reading.{read_table}
 use Rattle.table_check.specs.Verdict.{verdict}
 use Rattle.table_check.specs.Inner.Parsing.{table_of, Sectioned}
 use Rattle.table_check.specs.declared.found.Sections.{Sections}

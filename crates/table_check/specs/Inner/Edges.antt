@@ -2,9 +2,9 @@
 use Rattle.std.specs.Prelude.{ℕ, ◌≤◌, ◌<◌, List, [], ◌⊎◌, ◌≡◌, length, drop, Option, Some, None}
 use mathlib.Core.Option as maybe
 use mathlib.Core.Option.{none}
-use Rattle.text.specs.Text.{give}
+use Rattle.text.specs.Reading.{give}
 use Rattle.text.specs.Inner.Answer.{hex_at, HexParsed}
-use Rattle.tables.specs.Table.{Counts, counts_format, bytes_format}
+use Rattle.tables.specs.Reading.{Counts, counts_format, bytes_format}
 use Rattle.table_check.specs.declared.CountsRead.{CountsRead}
 use Rattle.table_check.specs.declared.BytesRead.{BytesRead}
 

@@ -5,7 +5,8 @@ use mathlib.Core.Option.{none, some}
 use Rattle.text.specs.Text.{read_literal}
 use Rattle.text.specs.Format.{read_all}
 use Rattle.text.specs.Put.{put_text}
-use Rattle.tables.specs.Table.{Row, row_format, rows_format}
+use Rattle.tables.specs.Table.{Row}
+use Rattle.tables.specs.Reading.{row_format, rows_format}
 use Rattle.tables.specs.Lists.{numbers_in, names_in}
 use Rattle.tables.specs.Inner.Answer.{GotAll}
 use Rattle.table_check.specs.declared.Rows.{Rows}

@@ -2,10 +2,11 @@
 use Rattle.std.specs.Prelude.{ℕ, ◌≤◌, List, [], ◌≡◌, length, take, drop, Option, Some, None}
 use mathlib.Core.Option as maybe
 use mathlib.Core.Option.{none, some}
-use Rattle.text.specs.Text.{give}
+use Rattle.text.specs.Reading.{give}
 use Rattle.text.specs.Format.{read_all}
 use Rattle.text.specs.Inner.Answer.{hex_at, HexParsed}
-use Rattle.tables.specs.Table.{Row, Named, row_format, read_table}
+use Rattle.tables.specs.Table.{Row, Named}
+use Rattle.tables.specs.Reading.{row_format, read_table}
 use Rattle.tables.specs.Lists.{numbers_in, names_in}
 use Rattle.table_check.specs.declared.found.Sections.{Sections}
 

@@ -1,6 +1,6 @@
 use native.Mathlib.Omega.{arith}
 use lib.ListN.{drop}
-use Rattle.tables.specs.Table.{read_name}
+use Rattle.tables.specs.Reading.{read_name}
 use Rattle.tables.proofs.Endings.{lost}
 use Rattle.tables.proofs.Naming.{name-found, name-long}
 use Rattle.table_reader.proofs.Naming.{naming-begin, naming-numbers-some, naming-name-some, naming-room, naming-next, naming-end}

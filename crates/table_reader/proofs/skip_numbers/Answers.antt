@@ -1,6 +1,6 @@
 use lib.ListN.{drop}
 use native.Mathlib.Omega.{arith}
-use Rattle.text.specs.Text.{read_field}
+use Rattle.text.specs.Reading.{read_field}
 use Rattle.text.proofs.Getting.{answer-none}
 use Rattle.tables.proofs.Endings.{gather-begin, gather-next, gather-lost, gather-done, got-there, got-missing}
 use Rattle.table_check.proofs.Lining.{number-found}

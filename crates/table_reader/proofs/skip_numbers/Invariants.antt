@@ -1,4 +1,4 @@
-use Rattle.text.specs.Text.{read_field}
+use Rattle.text.specs.Reading.{read_field}
 use Rattle.tables.proofs.Endings.{Gathering}
 use Rattle.table_reader.proofs.skip_numbers.Given as goal
 

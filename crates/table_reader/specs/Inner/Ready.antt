@@ -1,9 +1,10 @@
 -- Lines that are known to stand in a text, whose names are put.
 use Rattle.std.specs.Prelude.{ℕ, ◌+◌, ◌≤◌, List, [], ◌≡◌, length, drop}
 use Rattle.std.proofs.Math.Option.{none, some}
-use Rattle.text.specs.Text.{give}
+use Rattle.text.specs.Reading.{give}
 use Rattle.text.specs.Format.{read_all}
-use Rattle.tables.specs.Table.{Row, row_format}
+use Rattle.tables.specs.Table.{Row}
+use Rattle.tables.specs.Reading.{row_format}
 use Rattle.tables.specs.Lists.{names_in}
 
 -- the lines that stand in a text from `at` on

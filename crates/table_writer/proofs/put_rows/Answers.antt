@@ -6,7 +6,7 @@ use Rattle.tables.specs.Table.{field}
 use Rattle.pages.proofs.Numbers.{numbers-length, numbers-part}
 use native.Mathlib.Omega.{arith}
 use lib.ListN.{length, drop}
-use Rattle.tables.specs.Table.{read_name}
+use Rattle.tables.specs.Reading.{read_name}
 use Rattle.tables.proofs.Endings.{lost}
 use Rattle.tables.proofs.Naming.{name-found, name-long}
 use Rattle.table_writer.proofs.RowsPut.{rows-put-begin, rows-put-some, rows-put-in, rows-put-fits, rows-put-next, rows-put-end}

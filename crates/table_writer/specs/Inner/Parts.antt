@@ -1,15 +1,18 @@
 -- The parts of the writer's contracts.
-use Rattle.std.specs.Prelude.{ℕ, ◌+◌, ◌*◌, ◌/◌, ◌≤◌, ◌≡◌, length, drop}
+use Rattle.std.specs.Prelude.{ℕ, ◌+◌, ◌*◌, ◌/◌, ◌≤◌, ◌≡◌, length, drop, Option, Some, None}
 use mathlib.Core.List.{List, [], flat_map}
 use mathlib.Core.Option.{none}
-use Rattle.text.specs.Text.{give, ◌>>=◌}
+use Rattle.text.specs.Reading.{give, ◌>>=◌}
 use Rattle.text.specs.Format.{read_all}
-use Rattle.pages.specs.Page.{whole}
-use Rattle.tables.specs.Table.{Named, read_name, field, counts_line, table_text}
-use Rattle.tables.specs.Lists.{names_format, with_names}
+use Rattle.pages.specs.Reading.{whole}
+use Rattle.tables.specs.Table.{Named, field, counts_line, table_text}
+use Rattle.tables.specs.Reading.{read_name, names_format}
+use Rattle.tables.specs.Lists.{with_names}
 use Rattle.tables.specs.Inner.Answer.{names_at}
 use Rattle.table_writer.specs.declared.NamesRead.{NamesRead}
-use Rattle.std.specs.Prelude.{Option, Some, None}
+use Rattle.word.specs.Result.{Result}
+use Rattle.refusal.specs.Told.{told, answered, here, nothing, Reply}
+use Rattle.table_writer.specs.Writing.{writing, leaving}
 
 -- the names of t types stand from the front of `names`, of f fields from a on, of c constants from b on, and nothing more
 pub record NamesFound (names : List ℕ) (t f c a b : ℕ) : Type 0 where
@@ -42,3 +45,7 @@ pub record Ready (w f c b names : List ℕ) (x y : ℕ) (room : ℕ) : Type 0 wh
   pub fields : 2 * (length f / 2) ≡ length f
   pub constants : 3 * (length c / 3) ≡ length c
   pub fits : length (table_text (named w f c b names x y)) ≤ room
+
+pub record TableWritten (t : Result Named) (before after : List ℕ) (r : Reply) : Type 0 where
+  pub answer : told r ≡ answered here nothing (writing t before)
+  pub out : after ≡ leaving t before

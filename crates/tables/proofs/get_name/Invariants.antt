@@ -1,6 +1,6 @@
 use mathlib.Core.Path.{◌≡◌}
 use lib.ListN.{length, drop}
-use Rattle.tables.specs.Table.{read_name}
+use Rattle.tables.specs.Reading.{read_name}
 use Rattle.tables.specs.Inner.Answer.{ending}
 use Rattle.tables.proofs.get_name.Given as goal
 

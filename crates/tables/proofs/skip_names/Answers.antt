@@ -1,6 +1,6 @@
 use lib.ListN.{drop}
 use native.Mathlib.Omega.{arith}
-use Rattle.tables.specs.Table.{read_name}
+use Rattle.tables.specs.Reading.{read_name}
 use Rattle.tables.proofs.Naming.{name-found}
 use Rattle.tables.proofs.Endings.{gather-begin, gather-next, gather-lost, gather-done, got-there, got-missing, lost}
 use Rattle.tables.proofs.skip_names.Goals as goal

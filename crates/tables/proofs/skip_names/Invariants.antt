@@ -1,4 +1,4 @@
-use Rattle.tables.specs.Table.{read_name}
+use Rattle.tables.specs.Reading.{read_name}
 use Rattle.tables.proofs.Endings.{Gathering}
 use Rattle.tables.proofs.skip_names.Given as goal
 

@@ -3,9 +3,10 @@ use Rattle.std.specs.Prelude.{ℕ, ◌+◌, ◌-◌, ◌*◌, ◌≤◌, ◌≡�
 use mathlib.Core.List.{List, [], flat_map}
 use mathlib.Core.Option as maybe
 use mathlib.Core.Option.{none, some}
-use Rattle.text.specs.Text.{Reader, give}
+use Rattle.text.specs.Reading.{Reader, give}
 use Rattle.text.specs.Format.{read_all}
-use Rattle.tables.specs.Table.{read_name, row_line}
+use Rattle.tables.specs.Table.{row_line}
+use Rattle.tables.specs.Reading.{read_name}
 use Rattle.tables.specs.Lists.{rows_of}
 use Rattle.std.specs.Prelude.{Option, Some, None}
 

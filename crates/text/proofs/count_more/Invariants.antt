@@ -1,5 +1,5 @@
 use Rattle.text.specs.Inner.Answer.{hex_more}
-use Rattle.text.specs.Text.{read_hex}
+use Rattle.text.specs.Reading.{read_hex}
 use lib.ListN.{length, drop}
 use mathlib.Core.Path.{◌≡◌}
 use Prim.Native.Nat.{◌-◌, ◌≤◌}

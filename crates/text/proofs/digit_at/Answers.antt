@@ -2,7 +2,7 @@ use mathlib.Core.Path.{sym, ap, ◌∙◌}
 use mathlib.Core.Option.{some}
 use native.Mathlib.Omega.{arith}
 use borrow.Author.Tests.{ltb-false}
-use Rattle.text.specs.Text.{digit_of}
+use Rattle.text.specs.Reading.{digit_of}
 use Rattle.text.proofs.Getting.{stops_end, stops-low, stops-high, mid, byte-read}
 use Rattle.text.proofs.digit_at.Goals as goal
 

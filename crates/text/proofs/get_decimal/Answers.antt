@@ -1,6 +1,6 @@
 use Rattle.text.proofs.Getting.{no-digit-there, spare-zero, no-spare, first-digit, too_large, is-some}
 use Rattle.text.specs.Inner.Answer.{value_answer}
-use Rattle.text.specs.Text.{scan, capped, read_decimal}
+use Rattle.text.specs.Reading.{scan, capped, read_decimal}
 use lib.ListN.{length, drop}
 use mathlib.Core.Path.{◌≡◌, sym, ap, ◌∙◌}
 use Prim.Native.Nat.{◌+◌}

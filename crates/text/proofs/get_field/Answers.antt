@@ -1,7 +1,7 @@
 use mathlib.Core.Path.{sym, ◌∙◌}
 use borrow.Author.Tests.{ltb-false}
 use Rattle.text.proofs.Getting.{byte-read, field-none, answer-none, decimal-found, field-short, field-there, field-other}
-use Rattle.text.specs.Text.{read_decimal}
+use Rattle.text.specs.Reading.{read_decimal}
 use lib.ListN.{drop}
 use Rattle.text.proofs.get_field.Goals as goal
 

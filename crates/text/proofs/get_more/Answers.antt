@@ -3,7 +3,7 @@ use native.Mathlib.Omega.{arith}
 use lib.ListN.{length, drop}
 use Prim.Native.Nat.{◌+◌, ◌*◌}
 use mathlib.Core.Path.{◌≡◌, sym, ap, ◌∙◌}
-use Rattle.text.specs.Text.{scan}
+use Rattle.text.specs.Reading.{scan}
 use Rattle.text.proofs.get_more.Goals as goal
 
 pub returns-in_err-checked_mul : goal.returns-in_err-checked_mul

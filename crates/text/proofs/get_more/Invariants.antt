@@ -1,5 +1,5 @@
 use Prim.Native.Nat.{◌≤◌}
-use Rattle.text.specs.Text.{scan}
+use Rattle.text.specs.Reading.{scan}
 use lib.ListN.{length, drop}
 use mathlib.Core.Path.{◌≡◌}
 use Rattle.text.proofs.get_more.Given as goal

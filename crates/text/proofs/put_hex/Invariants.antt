@@ -1,4 +1,4 @@
-use Rattle.text.specs.Put.{Puts}
+use Rattle.text.specs.Inner.Puts.{Puts}
 use Rattle.text.specs.Text.{hex}
 use lib.ListN.{take}
 use Rattle.text.proofs.put_hex.Given as goal

@@ -1,8 +1,8 @@
 -- What the code answers for what a reader gives: where the rest of the text begins, in a text of length `len`.
-use Rattle.std.specs.Prelude.{ℕ, ◌+◌, ◌-◌, ◌*◌, ◌≤◌, ◌<◌, List, [], ◌≡◌, length, get_or, drop, Option, Some, None}
+use Rattle.std.specs.Prelude.{ℕ, ◌+◌, ◌-◌, ◌*◌, ◌≤◌, ◌<◌, List, [], ◌∷◌, ◌≡◌, length, get_or, drop, Option, Some, None}
 use mathlib.Core.Option as maybe
 use mathlib.Core.Option.{none, some}
-use Rattle.text.specs.Text.{read_hex, digit_of, hex_digit_of, give}
+use Rattle.text.specs.Reading.{read_hex, digit_of, hex_digit_of, give}
 
 -- a value and where the rest begins
 abbrev pub value_answer : {A : Type 0} → (len : ℕ) → maybe.Option (A × List ℕ) → Option (A × ℕ)
@@ -49,3 +49,8 @@ pub record HexDigits (s : List ℕ) (at n : ℕ) : Type 0 where
 pub record HexRun (s : List ℕ) (at r count : ℕ) : Type 0 where
   pub far : r ≡ at + 2 * count
   pub reads : hex_answer (length s) (read_hex (drop at s)) ≡ hex_more (length s) count (read_hex (drop r s))
+
+-- a text that does not go on with a digit
+unfoldable pub Stops : List ℕ → Type 0
+Stops [] = Unit
+Stops (b ∷ bs) = digit_of b ≡ none

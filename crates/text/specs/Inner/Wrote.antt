@@ -1,6 +1,6 @@
 -- What a step leaves of a page that is written.
 use Rattle.std.specs.Prelude.{ℕ, List, ◌≡◌}
-use Rattle.text.specs.Put.{Puts}
+use Rattle.text.specs.Inner.Puts.{Puts}
 use Rattle.text.specs.declared.output.Out.{Out}
 
 -- the same page, with `text` written after what was

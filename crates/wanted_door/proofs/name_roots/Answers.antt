@@ -2,7 +2,7 @@
 use mathlib.Core.List.{map}
 use Rattle.mark.specs.Inner.Scratch.{high}
 use Rattle.wanted.specs.Search.{noted}
-use Rattle.wanted.specs.Way.{those}
+use Rattle.wanted.specs.Inner.Picked.{those}
 use Rattle.wanted_door.proofs.Naming.{name-short, name-wrote}
 use Rattle.wanted_door.proofs.name_roots.Goals as goal
 

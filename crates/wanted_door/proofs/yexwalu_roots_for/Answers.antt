@@ -6,10 +6,10 @@ use Rattle.ty.specs.View.{table_of}
 use Rattle.heap.specs.Lent.{Lent, lent, view}
 use Rattle.heap.specs.Inner.Seen.{seen}
 use Rattle.traced.specs.Inner.Lists.{Lists}
-use Rattle.door.specs.HeapCalls.{entry_of}
 use Rattle.wanted_door.specs.Inner.Listing.{CanSearch}
 use Rattle.wanted_door.specs.RootsFor.{root_handles}
 use Rattle.wanted_door.proofs.Entries.{can-search, roots-refused, roots-done}
+use Rattle.door.specs.Inner.Entered.{entry_of}
 use Rattle.wanted_door.proofs.yexwalu_roots_for.Goals as goal
 
 pub list_roots-reply-requires : goal.list_roots-reply-requires

@@ -2,7 +2,7 @@
 use Rattle.std.proofs.Common.{refl, rules}
 use Rattle.refusal.specs.Told.{nothing}
 use Rattle.heap.specs.Lent.{Lent, lent, view}
-use Rattle.heap.specs.Done.{Tells}
+use Rattle.heap.specs.Inner.Tells.{Tells}
 use Rattle.roots.specs.Calls.{function}
 use Rattle.collect.specs.Inner.Safepoint.{at_safepoint}
 use Rattle.collect_door.specs.Calls.{Asked, table, frame, pinning}

@@ -4,7 +4,8 @@ use mathlib.Core.Path.{sym, ap}
 use mathlib.Core.List.{List, ◌++◌}
 use Rattle.std.specs.Prelude.{Some, None}
 use Rattle.ty.specs.View.{lent}
-use Rattle.frame.specs.Frame.{entries_of, entries_words}
+use Rattle.frame.specs.Frame.{entries_of}
+use Rattle.frame.specs.Inner.Words.{entries_words}
 use Rattle.frame.proofs.Words.{frame-words}
 use Rattle.addresses.specs.Listed.{slots_of}
 use Rattle.mark.specs.Inner.Safepoints.{live_values, handles_in, pinned_in}

@@ -1,14 +1,13 @@
 use native.Mathlib.Omega.{arith}
 use mathlib.Core.Path.{refl}
 use borrow.Author.Tests.{eq-eqb, ne_eqb}
-use Rattle.ty.specs.Walks.{desc_array}
+use Rattle.ty.specs.DescSize.{desc_array, desc_fields}
 use native.Mathlib.Omega.{arith}
 use Rattle.ty.proofs.WalkLaws.{desc-none, desc-missing, desc-of-array, desc-of-record, desc-other}
 use Rattle.ty.proofs.Ranges.{record-within}
 use native.Mathlib.Omega.{arith}
 use mathlib.Core.Path.{refl, sym, ap, ◌∙◌}
 use Rattle.ty.proofs.WalkLaws.{fields-first, desc-last, desc-skip, desc-stop, desc-over, desc-more}
-use Rattle.ty.specs.Walks.{desc_fields}
 use Rattle.ty.proofs.Table.+desc_array_desc_in_desc_record.Goals.{desc_record-then-c-eq-NO_CONST+in_ok-m+in_ok-n, desc_record-else-c-eq-NO_CONST}
 use Rattle.ty.proofs.Table.+desc_array_desc_in_desc_record.Goals as goal
 

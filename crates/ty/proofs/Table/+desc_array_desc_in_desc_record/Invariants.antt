@@ -1,7 +1,7 @@
 use Prim.Native.Nat.{◌+◌, ◌*◌}
 use Prim.Native.Nat.{◌+◌, ◌-◌, ◌*◌}
 use mathlib.Core.Path.{◌≡◌}
-use Rattle.ty.specs.Walks.{desc_fields, desc_at}
+use Rattle.ty.specs.DescSize.{desc_fields, desc_at}
 use Rattle.ty.specs.View.{types_of, fields_from}
 use Rattle.ty.proofs.Table.+desc_array_desc_in_desc_record.Given as goal
 

@@ -1,6 +1,7 @@
 -- `mark::queue::Queue::hold_frame` meets its contract.
 use Rattle.addresses.specs.Listed.{slots_of}
-use Rattle.frame.specs.Frame.{entries_of, entries_words}
+use Rattle.frame.specs.Frame.{entries_of}
+use Rattle.frame.specs.Inner.Words.{entries_words}
 use Rattle.reach.specs.Marking.{pin_all}
 use Rattle.mark.specs.Inner.Queues.{state}
 use Rattle.mark.specs.Inner.Joining.{in_use}
