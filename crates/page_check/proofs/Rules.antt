@@ -8,7 +8,7 @@ use Rattle.rows.specs.Inner.Row.{bit_in}
 use Rattle.text.specs.Format.{read_all}
 use Rattle.text.proofs.Laws.{bind-some, some_inj}
 use Rattle.heap.specs.State.{Slot, bit}
-use Rattle.pages.specs.Page.{out_of_column}
+use Rattle.pages.specs.Reading.{out_of_column, slot_format}
 use Rattle.pages.proofs.Writing.{blank}
 use Rattle.page_parser.specs.Inner.Values.{values_at}
 use Rattle.page_check.specs.Inner.Marks.{marked, Marked}
@@ -22,7 +22,6 @@ use Rattle.page_check.specs.declared.Rule.{Rule}
 use Rattle.page_check.specs.declared.Rule.TheVariants.{Once, Young, Worn}
 use Rattle.page_check.proofs.Marking.{mark-told, mark-both, mark-spoilt}
 use Rattle.text.specs.Reading.{give, Reader, ◌>>=◌}
-use Rattle.pages.specs.Reading.{slot_format}
 use mathlib.Core.List.{List, [], ◌∷◌, ◌++◌, map}
 use mathlib.Core.Option.{some}
 use mathlib.Core.Bool.{Bool, true, false, ◌&&◌}

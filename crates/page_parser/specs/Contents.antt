@@ -4,7 +4,7 @@ use mathlib.Core.Option.{none, some}
 use Rattle.heap.specs.State.{State}
 use Rattle.heap.specs.Calls.{new}
 use Rattle.pages.specs.Form.{Form, written}
-use Rattle.pages.specs.Page.{read_page}
+use Rattle.pages.specs.Reading.{read_page}
 
 -- what a page says, before anything is moved; a text that is no page has no use for it
 unfoldable pub heap_in : List ℕ → State

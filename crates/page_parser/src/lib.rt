@@ -3,8 +3,8 @@
 
 ghost use Rattle.std.specs.Prelude.{◌≡◌, ℕ, ◌-◌, ◌^◌, ◌≤◌, ◌<◌, length, drop, ◌&&◌, leb, ltb, false, true};
 ghost use Rattle.text.specs.Inner.Answer.{value_answer};
-ghost use Rattle.pages.specs.Form.{writes_width, names, sealed_name};
-ghost use Rattle.pages.specs.Page.{slot_format, sealed_end, retired_count, head_format};
+ghost use Rattle.pages.specs.Form.{writes_width, sealed_name};
+ghost use Rattle.pages.specs.Reading.{names, retired_count, head_format, sealed_end, slot_format};
 ghost use Rattle.text.specs.Format.{read_all, number};
 ghost use Rattle.page_parser.specs.Inner.Answer.{slot_answer, slots_answer, sound_numbers, indices_more, seals_more, seal_test, head_answer};
 ghost use Rattle.handle.specs.Handle.{tag_of, index_of, generation_of};

@@ -18,7 +18,8 @@ pub struct Given<'a> {
 impl<'a> Given<'a> {
     ghost use Rattle.std.specs.Prelude.{[], ◌∷◌, IfOk};
     ghost use Rattle.heap.specs.Inner.Seen.{seen};
-    ghost use Rattle.door.specs.HeapCalls.{Entered, heap_tests, entry_of};
+    ghost use Rattle.door.specs.HeapCalls.{heap_tests};
+ghost use Rattle.door.specs.Inner.Entered.{entry_of, Entered};
     ghost use Rattle.same_door.specs.Inner.Given.{memory_of};
 
     // The heap, to be read, where scratch is enough and it is well formed.

@@ -1,7 +1,7 @@
 -- The values of a list that stand in a text, one a line.
 use Rattle.std.specs.Prelude.{ℕ, List, [], ◌≡◌, drop}
 use Rattle.std.proofs.Math.Option.{none, some}
-use Rattle.text.specs.Text.{give}
+use Rattle.text.specs.Reading.{give}
 use Rattle.text.specs.Format.{number, read_all}
 
 -- the values of a width in bits that stand in a text from `at` on, one a line
