@@ -5,7 +5,7 @@ use Rattle.heap.specs.Lent.{Lent, slot_count}
 use Rattle.heap.specs.WellFormed.{well_formed}
 use Rattle.heap.specs.State.{State}
 use Rattle.heap.specs.Calls.{Changed, refuse, done}
-use Rattle.heap_calls.specs.Pins.{rising}
+use Rattle.word.specs.Lists.{rising}
 use Rattle.collection.specs.Swept.{swept}
 use Rattle.collection.specs.Shown.{shown}
 use Rattle.collection.specs.Collected.{graph, starts, collected}

@@ -21,7 +21,7 @@ use Rattle.heap.specs.WellFormed.{well_formed}
 use Rattle.heap.specs.Calls.{refuse}
 use Rattle.heap.specs.Done.{Tells}
 use Rattle.heap.proofs.Testing.{formed-tested}
-use Rattle.heap_calls.specs.Pins.{rising}
+use Rattle.word.specs.Lists.{rising}
 use Rattle.addresses.specs.Listed.{paired}
 use Rattle.flow.specs.Function.{safepoint}
 use Rattle.roots.specs.Calls.{Lent as Code, function, right, need}
@@ -30,16 +30,12 @@ use Rattle.collect.specs.Inner.Safepoint.{at_safepoint, CanLook}
 use Rattle.door.specs.HeapCalls.{Test, test, admitted, enough, zeros, scratch_after, Entered, outcome, outcome_of}
 use Rattle.door.specs.HeapCalls.{Entry}
 use Rattle.door.specs.HeapCalls.{ready}
-use Rattle.door.proofs.Entering.{fails, passes, more-ready, and-holds, and-fails, and-more, cleared-in, holding, call-refused, call-cleared, marks-zero, work-zero, rows-zero, zeros-again, zeros-room}
+use Rattle.door.proofs.Entering.{fails, passes, more-ready, and-holds, and-fails, and-more, cleared-in, holding, call-refused, call-cleared, marks-zero, work-zero, rows-zero, zeros-again, zeros-room, fits-is, none_left}
 use Rattle.collect_door.specs.Calls.{Given, table_in, given_tests, tests, collect_call, Asked, table, frame, pinning, coded, roomy, row_tests, input_tests, joining, joined_call}
 use Rattle.collect_door.specs.Demand.{RightlyCollected, Demand}
 use Rattle.collect_door.proofs.Theorem.{collect-rightly, demand}
 
 -- ---- collect: the type table and the pins
-
-none_left : ready ≡ admitted []
-unfolding admitted
-none_left = refl
 
 module _ (types fields consts bytes pins : List ℕ) where
   module _ (g : Bool) (eg : g ≡ table_good types fields consts bytes) where
@@ -105,18 +101,14 @@ by-leb b n k e = bool-ext b (leb n k) (λ h. le-leb n k (e.0 h)) (λ h. e.1 (leb
 
 module _ (n : ℕ) (m w r : List ℕ) (l : Lent) where
   module _ {u : Bool} (v : u ≡ (leb (slot_count l) (length m) && leb (slot_count l) (length w))) where
-    fits-is : u ≡ enough m w l
-    unfolding enough
-    fits-is = v
-
     pub no-scratch : u ≡ false → Entered (m ∷ w ∷ r ∷ []) (row_tests n m w r l) (Err Scratch) (m ∷ w ∷ r ∷ [])
     unfolding roomy
-    no-scratch h = record { found = fails _ _ _ (simp (sym fits-is ∙ h)); left = refl }
+    no-scratch h = record { found = fails _ _ _ (simp (sym (fits-is m w l v) ∙ h)); left = refl }
 
     module _ (h : u ≡ true) (q : Bool) (e : q ≡ leb n (length r)) where
       pub no_rows : q ≡ false → Entered (m ∷ w ∷ r ∷ []) (row_tests n m w r l) (Err Scratch) (m ∷ w ∷ r ∷ [])
       unfolding roomy
-      no_rows j = record { found = fails _ _ _ (simp (sym fits-is ∙ h, sym e ∙ j)); left = refl }
+      no_rows j = record { found = fails _ _ _ (simp (sym (fits-is m w l v) ∙ h, sym e ∙ j)); left = refl }
 
       module _ (j : q ≡ true) (b : Bool) (m' w' r' : List ℕ) (f : (b ≡ well_formed l) × (m' ≡ zeros m)) (z : w' ≡ zeros w) (y : r' ≡ zeros r) where
         cleared : m' ∷ w' ∷ r' ∷ [] ≡ zeros m ∷ zeros w ∷ zeros r ∷ []
@@ -124,7 +116,7 @@ module _ (n : ℕ) (m w r : List ℕ) (l : Lent) where
 
         is-roomy : roomy n m w r l ≡ true
         unfolding roomy
-        is-roomy = simp (sym fits-is ∙ h, sym e ∙ j)
+        is-roomy = simp (sym (fits-is m w l v) ∙ h, sym e ∙ j)
 
         pub not-formed : b ≡ false → Entered (m ∷ w ∷ r ∷ []) (row_tests n m w r l) (Err BrokenHeap) (m' ∷ w' ∷ r' ∷ [])
         not-formed x = record { found = passes _ _ _ is-roomy (fails _ _ _ (sym f.0 ∙ x)); left = cleared }

@@ -96,8 +96,8 @@ module _ (a : Asked) (marks work rows : List ℕ) (l : Lent) (o : Outcome) (e : 
   abbrev code : Function
   code = function a.code
 
-  abbrev stuck : Type 0
-  stuck = CannotTrace (table a) code a.pc a.values (frame a) (pinning a) (view l)
+  abbrev untraceable : Type 0
+  untraceable = CannotTrace (table a) code a.pc a.values (frame a) (pinning a) (view l)
 
   good : admitted (joined_tests a marks work rows l) ≡ ready → valid code ≡ true
   unfolding coded
@@ -106,7 +106,7 @@ module _ (a : Asked) (marks work rows : List ℕ) (l : Lent) (o : Outcome) (e : 
   joins : admitted (joined_tests a marks work rows l) ≡ ready → Joins (table a) code a.pc a.values (frame a) (pinning a) (view l) (joining a (view l))
   joins i = joined-demand (table a) code a.pc (good i) (all_hold (joined_tests a marks work rows l) 6 i) a.values (frame a) (pinning a) (all_hold (joined_tests a marks work rows l) 5 i) (view l)
 
-  two-joined : Two (joined_tests a marks work rows l) l (joining a) stuck
+  two-joined : Two (joined_tests a marks work rows l) l (joining a) untraceable
   two-joined =
       record {
         formed = λ i. all_hold (joined_tests a marks work rows l) 1 i;
@@ -116,7 +116,7 @@ module _ (a : Asked) (marks work rows : List ℕ) (l : Lent) (o : Outcome) (e : 
       }
 
   pub has_done : o.answer ≡ done → (admitted (joined_tests a marks work rows l) ≡ ready) × ((joining a (view l)).answer ≡ ok tt) × (o.heap ≡ stored (slot_count l) (pool_size l) (joining a (view l)).heap)
-  has_done = succeeded (marks ∷ work ∷ rows ∷ []) (joined_tests a marks work rows l) l (joining a) stuck two-joined o e
+  has_done = succeeded (marks ∷ work ∷ rows ∷ []) (joined_tests a marks work rows l) l (joining a) untraceable two-joined o e
 
   has-begun : o.answer ≡ done → (handles : List ℕ) × (frame a ≡ some handles) × ((S : Starts) × StartsAt a l handles S)
   has-begun q = go (frame a) refl
@@ -133,7 +133,7 @@ module _ (a : Asked) (marks work rows : List ℕ) (l : Lent) (o : Outcome) (e : 
   pub demand : Demand a marks work rows l o
   demand =
       record {
-        refusals = refuses-rightly (marks ∷ work ∷ rows ∷ []) (joined_tests a marks work rows l) l (joining a) stuck two-joined o e;
+        refusals = refuses-rightly (marks ∷ work ∷ rows ∷ []) (joined_tests a marks work rows l) l (joining a) untraceable two-joined o e;
         begins = has-begun;
         collected = λ q handles i S at.
             let k = has_done q in

@@ -12,7 +12,7 @@ use Rattle.heap.specs.State.{State}
 use Rattle.heap.specs.Lent.{Lent}
 use Rattle.heap.specs.WellFormed.{well_formed}
 use Rattle.heap.specs.Calls.{Changed}
-use Rattle.heap_calls.specs.Pins.{rising}
+use Rattle.word.specs.Lists.{rising}
 use Rattle.flow.specs.Function.{safepoint}
 use Rattle.roots.specs.Calls.{Lent as Code, function, right, need}
 use Rattle.addresses.specs.Listed.{paired}

@@ -89,12 +89,12 @@ module _ (T : Table) (f : Function) (pc : ℕ) (good : valid f ≡ true) (at : s
       go (some handles) =
           record {
             untraceable = (
-              λ q. inr (handles, refl, record { from = S; starts = begins; stuck = all.untraceable.0 q }),
-              λ k. ⊎_elim (λ e. let z : ◌≡◌ {A = ℕ} 0 1 = cc in absurd (omega arith)) (λ (hs, e, s). (other hs e s.from s.starts).untraceable.1 s.stuck) k,
+              λ q. inr (handles, refl, record { from = S; starts = begins; untraceable = all.untraceable.0 q }),
+              λ k. ⊎_elim (λ e. let z : ◌≡◌ {A = ℕ} 0 1 = cc in absurd (omega arith)) (λ (hs, e, s). (other hs e s.from s.starts).untraceable.1 s.untraceable) k,
             );
             unchanged = all.unchanged;
             begins = λ hs e. (S, at-handles hs e begins);
-            succeeds = λ no free. all.succeeds (λ k. free handles refl (record { from = S; starts = begins; stuck = k }));
+            succeeds = λ no free. all.succeeds (λ k. free handles refl (record { from = S; starts = begins; untraceable = k }));
             collects = λ hs e S' b. other hs e S' b;
           }
         where

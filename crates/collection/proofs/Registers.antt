@@ -10,7 +10,8 @@ use lib.ListN.{length, get_or}
 use lib.Dec.{eqb}
 use borrow.Author.Tests.{eqb-true, eq-eqb}
 use Rattle.heap.specs.State.{State}
-use Rattle.flow.specs.Function.{Function, has, valid, safepoint, Live, LiveList}
+use Rattle.flow.specs.Function.{Function, valid, safepoint, Live, LiveList}
+use Rattle.word.specs.Lists.{has}
 use Rattle.word.proofs.Bools.{or_cases, or_left, or_right, and_both, both-and}
 use Rattle.flow.proofs.Lists.{has-filter}
 use Rattle.flow.proofs.Validity.{valid-disjoint, safepoint-held, row_list}

@@ -12,10 +12,10 @@ use Rattle.std.specs.declared.cmp.Ordering.TheVariants.{Less, Equal, Greater}
 use Rattle.std.specs.Ordering.{nat_cmp}
 use Rattle.std.specs.Cmp.Lexicographic.{slice_cmp}
 use Rattle.std.proofs.lemmas.Map.Lookups.{exact_unsigned}
-use Rattle.word.specs.Run.{run}
+use Rattle.word.specs.Run.{run, start_of}
 use Rattle.word.specs.Result.{Result, ok, refused}
 use Rattle.word.proofs.ListLaws.{take-zeros}
-use Rattle.heap.specs.Packing.{start_of, data_at}
+use Rattle.heap.specs.Packing.{data_at}
 use Rattle.heap.specs.declared.Heap.{Heap}
 use Rattle.heap.specs.Lent.{lent, view}
 use Rattle.heap.specs.Inner.Seen.{seen, state}
@@ -48,8 +48,9 @@ use Rattle.saves.proofs.TwoLent.{lent-first, lent-second, lent-turns}
 use Rattle.compare_heaps.specs.Inner.Compared.{compared_by, CanMark}
 use Rattle.compare_objects.specs.Inner.Sides.{head_of, data_beside, places_in, slots_beside, Queued}
 use Rattle.compare_objects.specs.Inner.Lent.{sides_order, QueuedIn}
-use Rattle.compare_heaps.specs.Inner.Marked.{Clear, MetIn, Meets, side_model}
+use Rattle.compare_heaps.specs.Inner.Marked.{MetIn, Meets, side_model}
 use Rattle.compare_heaps.proofs.Meeting.{reached-places, met-queued}
+use Rattle.mark.specs.Inner.Scratch.{Clear}
 
 -- ---- lists
 

@@ -5,7 +5,7 @@ use lib.ListN.{get_or-eq_default}
 use Rattle.word.specs.Lists.{all, all_below, same_list}
 use Rattle.word.proofs.Bools.{and_both, both-and, or_cases, or_left, or_right}
 use Rattle.word.proofs.ListLaws.{all-at, at_all, below_at, at-below, same-tested, same_test}
-use Rattle.heap.specs.Packing.{flat}
+use Rattle.std.specs.List.{concat}
 use Rattle.heap.specs.State.{Slot, State, no_slot, slot_at, data_of, live, last_generation, worn, bit, times}
 use Rattle.heap.specs.Lent.{Lent, columns, stored, view, slot_count, pool_size}
 use Rattle.heap.specs.WellFormed.{sound_slot, places, partitioned, retired_rightly, sound_seals, sound_reclaim, sound, fits, same_header, same_lent, well_formed}
@@ -204,7 +204,7 @@ lent-test a = simp (same_number, same_test)
 pub sound-tested : (S P : ℕ) (h : State) → fits S P h ≡ true → sound h ≡ true → Sound S P h
 unfolding fits sound sound_reclaim retired_rightly
 sound-tested S P h f t =
-    let f₁ = and_both (leb 1 S && leb S 16777216 && leb P 1073741824 && leb (length h.slots) S) (leb (length (flat (data_of h.slots))) P) f in
+    let f₁ = and_both (leb 1 S && leb S 16777216 && leb P 1073741824 && leb (length h.slots) S) (leb (length (concat (data_of h.slots))) P) f in
     let f₂ = and_both (leb 1 S && leb S 16777216 && leb P 1073741824) (leb (length h.slots) S) f₁.0 in
     let f₃ = and_both (leb 1 S && leb S 16777216) (leb P 1073741824) f₂.0 in
     let f₄ = and_both (leb 1 S) (leb S 16777216) f₃.0 in
@@ -221,7 +221,7 @@ sound-tested S P h f t =
       slot-range = (leb-true 1 S f₄.0, leb-true S 16777216 f₄.1);
       pool-range = leb-true P 1073741824 f₃.1;
       slots-fit = leb-true (length h.slots) S f₂.1;
-      data-fit = leb-true (length (flat (data_of h.slots))) P f₁.1;
+      data-fit = leb-true (length (concat (data_of h.slots))) P f₁.1;
       partition = part;
       young = λ i m. not-worn (slot_at h i) (each i (placed-inside h part i (omega arith))) (all-times (λ i. not (worn (slot_at h i))) h.free i ages.0 m);
       spent = λ i m. eqb-true (slot_at h i).generation last_generation (all-times (λ i. worn (slot_at h i)) h.retired i ages.1 m);
@@ -239,7 +239,7 @@ sound-test S P h s =
       le-leb S 16777216 s.slot-range.1,
       le-leb P 1073741824 s.pool-range,
       le-leb (length h.slots) S s.slots-fit,
-      le-leb (length (flat (data_of h.slots))) P s.data-fit,
+      le-leb (length (concat (data_of h.slots))) P s.data-fit,
       at_all sound_slot h.slots no_slot (λ i k. slot-tests (slot_at h i) (s.each-slot i k)),
       parts-test h s.partition,
       times-all (λ i. not (worn (slot_at h i))) h.free (λ i m. ap not (ne_eqb (slot_at h i).generation last_generation (λ e. omega (arith, s.young i m)))),

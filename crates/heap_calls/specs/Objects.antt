@@ -11,11 +11,11 @@ use Rattle.heap.specs.Inner.Loans.{lies, SameLoans}
 use Rattle.heap.specs.declared.view_mut.ViewMut.{ViewMut}
 
 -- the numbers of an object whose bytes are in the output: its length and its start
-abbrev pub size_of : Object → ℕ
-size_of o = length o.bytes
+abbrev pub object_size : Object → ℕ
+object_size o = length o.bytes
 
-abbrev pub start_of : Object → ℕ
-start_of o = o.start
+abbrev pub object_start : Object → ℕ
+object_start o = o.start
 
 -- the output with the object's bytes first; a refusal writes nothing
 abbrev pub handed_out : List ℕ → Result Object → List ℕ
@@ -25,7 +25,7 @@ handed_out out (refused n) = out
 -- the object's bytes are in the output, the reply is its length and start
 pub record TakeDoes (l l' : Lent) (reply : Reply) (x : ℕ) (out out' : List ℕ) : Type 0 where
   pub leaves : Leaves l l' (take_into (length out) (view l) x).heap
-  pub says : told reply ≡ answered size_of start_of (take_into (length out) (view l) x).answer
+  pub says : told reply ≡ answered object_size object_start (take_into (length out) (view l) x).answer
   pub wrote : out' ≡ handed_out out (take_into (length out) (view l) x).answer
 
 -- as TakeDoes, in the memory that is lent

@@ -9,7 +9,7 @@ use Rattle.refusal.specs.Told.{nothing}
 use Rattle.refusal.specs.declared.Refusal.TheVariants.{NothingThere}
 use Rattle.std.specs.Prelude.{Result as Outcome, Ok, Err, Option, Some, None}
 use Rattle.refusal.specs.declared.Refusal.{Refusal}
-use Rattle.heap.specs.Packing.{start_of}
+use Rattle.word.specs.Run.{start_of}
 use Rattle.heap.specs.State.{State, slot_at, live, data_size}
 use Rattle.heap.specs.Lent.{Lent, lent, columns, stored, view, slot_count, pool_size}
 use Rattle.heap.specs.WellFormed.{well_formed}

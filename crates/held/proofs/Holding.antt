@@ -13,7 +13,7 @@ use Rattle.heap.specs.WellFormed.{well_formed}
 use Rattle.heap.specs.Calls.{Changed, take_into}
 use Rattle.heap.specs.Done.{Tells}
 use Rattle.heap.specs.declared.Heap.{Heap}
-use Rattle.heap_calls.specs.Objects.{size_of, start_of, handed_out, TakeDoes}
+use Rattle.heap_calls.specs.Objects.{handed_out, TakeDoes, object_start, object_size}
 use Rattle.held.specs.Held.{Held}
 
 -- the same memory with this header
@@ -38,8 +38,8 @@ module _ {h g h' g' : Heap} {k l k' l' : Lent} where
 
   pub holds-take : (x : ℕ) (out : List ℕ) {out' : List ℕ} {y : Reply} {r : Answer} → TakeDoes k k' y x out out' → r ≡ told y
       → h ≡ g → h' ≡ g' → headed h k ≡ k → headed g k ≡ l → headed h' k' ≡ k' → headed g' k' ≡ l'
-      → Held size_of start_of l l' r (λ s. take_into (length out) s x) × (out' ≡ handed_out out (take_into (length out) (view l) x).answer)
+      → Held object_size object_start l l' r (λ s. take_into (length out) s x) × (out' ≡ handed_out out (take_into (length out) (view l) x).answer)
   holds-take x out {out'} {r = r} d e =
       moved
-      (λ u v. Held size_of start_of u v r (λ s. take_into (length out) s x) × (out' ≡ handed_out out (take_into (length out) (view u) x).answer))
+      (λ u v. Held object_size object_start u v r (λ s. take_into (length out) s x) × (out' ≡ handed_out out (take_into (length out) (view u) x).answer))
       (record { leaves = d.leaves; says = e ∙ d.says }, d.wrote)

@@ -25,7 +25,9 @@ use Rattle.collection.specs.Demand.{Survived}
 use Rattle.collection.proofs.Dropping.{swept_slot, goes-live}
 use Rattle.collection.proofs.SweptLaws.{swept-slot, swept-count, swept-tag}
 use Rattle.histories.specs.History.{Unreached}
-use Rattle.histories.proofs.Lists.{pick, live-sum, times-in, in-times, rising-once, passing-rises, passing-in, in-passing}
+use Rattle.word.proofs.RisingLaws.{passing-rises}
+use Rattle.collection.proofs.Pinned.{times-in, in-times}
+use Rattle.histories.proofs.Lists.{pick, live-sum, rising-once, passing-in, in-passing}
 use Rattle.histories.proofs.Stepping.{age}
 
 -- ---- slots

@@ -15,7 +15,7 @@ use Rattle.heap_door.specs.Sealing.{sealing}
 use Rattle.collect_door.specs.Calls.{Given, table_in, tests, collect_call, Asked, table, frame, pinning, joined_tests, joined_call}
 use Rattle.script.specs.Script.{Call as LineCall, alloc as alloc_line, take as take_line, seal as seal_line, recycle as recycle_line, call_of, lines}
 use Rattle.run_door.specs.Run.{run_tests, run_call}
-use Rattle.histories.specs.Steps.{Told, Step, alloc as alloc_step, reissue as reissue_step, edit as edit_step, write as write_step, take as take_step, free as free_step, recycle as recycle_step, seal as seal_step, collect as collect_step, ask, Answer, doing}
+use Rattle.histories.specs.Steps.{Told, Step, alloc as alloc_step, reissue as reissue_step, edit as edit_step, write as write_step, take as take_step, free as free_step, recycle as recycle_step, seal as seal_step, collect as collect_step, ask, doing, Value}
 
 -- ---- the calls
 
@@ -106,7 +106,7 @@ line_step (some seal_line) = seal_step
 line_step (some recycle_line) = recycle_step []
 
 -- those that come after a step, unless it was refused
-abbrev pub unless_refused : Result Answer → List Step → List Step
+abbrev pub unless_refused : Result Value → List Step → List Step
 unless_refused (ok a) next = next
 unless_refused (refused n) next = []
 

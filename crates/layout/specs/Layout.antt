@@ -13,8 +13,8 @@ abbrev pub Lay : Type 0
 Lay = Result Layout Refusal
 
 -- a layout with how many offsets were written, or why there is none
-abbrev pub Answer : Type 0
-Answer = Result (Layout × ℕ) Refusal
+abbrev pub WithOffsets : Type 0
+WithOffsets = Result (Layout × ℕ) Refusal
 
 -- the positions of an array's dimensions, or why there are none
 abbrev pub Dims : Type 0
@@ -23,6 +23,11 @@ Dims = Result ℕ Refusal
 -- a layout that is there
 abbrev pub laid : (size align stride count used : ℕ) → Lay
 laid s a st n u = Ok (record { size = s; align = a; stride = st; count = n; used = u })
+
+-- what follows from a layout, and what else where there is none
+abbrev pub on_laid : {A : Type 0} → A → Lay → (Layout → A) → A
+on_laid other (Ok l) f = f l
+on_laid other (Err e) f = other
 
 -- the descriptor word that starts at byte i, little-endian
 abbrev pub desc_word : List ℕ → ℕ → ℕ

@@ -16,7 +16,7 @@ use Rattle.handle.proofs.ResolveLaws.{live-beyond, live-not, live-there}
 use Rattle.reach.specs.Marking.{State, Good, visit, pin_if}
 use Rattle.reach.proofs.Grown.{sum-set, sum-le, visit-grown, good-nothing}
 use Rattle.trace.specs.Inner.Emit.{over}
-use Rattle.mark.specs.Inner.Scratch.{low, high, state_of, Holds, Scratch, Noted}
+use Rattle.mark.specs.Inner.Scratch.{low, high, state_of, Holds, Scratch, Noted, Clear}
 use Rattle.mark.specs.declared.queue.Queue.{Queue}
 use Rattle.mark.specs.Inner.Queues.{state, IsReady, SameLoans, Becomes}
 
@@ -135,3 +135,6 @@ module _ (slots S : ℕ) (narrow marks work : List ℕ) (n i : ℕ) (c : Scratch
     pub pin-live : (get_or narrow (S + i) 0 ≡ 0 → ⊥) → (marks' work' : List ℕ) (n' : ℕ) → Holds slots marks' work' n' (visit (state_of marks work n) i)
         → Holds slots marks' work' n' (pin_if (live_in slots (run S S narrow) i) (state_of marks work n) i)
     pin-live e marks' work' n' k = rw (live-there slots (run S S narrow) i h (λ z. e (sym kind_at ∙ z))) k
+
+pub clear-scratch : (slots : ℕ) (marks work : List ℕ) → Clear slots marks work → Scratch slots marks work 0
+clear-scratch slots marks work c = scratch-start slots marks work c.few c.clear c.room

@@ -8,7 +8,8 @@ use Rattle.std.specs.Prelude.{Option, Some, None}
 use Rattle.ty.specs.Types.{Const.plain, Table}
 use Rattle.ty.specs.View.{part_at, read_part, table_of}
 use Rattle.ty.proofs.Lookup.{const-at}
-use Rattle.heap.specs.Packing.{start_of, data_at}
+use Rattle.heap.specs.Packing.{data_at}
+use Rattle.word.specs.Run.{start_of}
 use Rattle.heap.specs.State.{State, slot_at}
 use Rattle.heap.specs.Calls.{resolve}
 use Rattle.places.specs.StrideZero.{ShortConstants}

@@ -6,7 +6,7 @@ use mathlib.Core.Path.{◌≡◌, refl, ap}
 use lib.ListN.{length-append}
 use Rattle.word.specs.Lists.{all}
 use Rattle.heap.specs.State.{Slot, data_of, data_size, times}
-use Rattle.heap.specs.Packing.{flat}
+use Rattle.std.specs.List.{concat}
 use Rattle.heap.specs.WellFormed.{sound_slot}
 use Rattle.pages.specs.Form.{from_column}
 use Rattle.pages.specs.Page.{out_of_column}
@@ -20,10 +20,10 @@ same-sound p [] = refl
 same-sound p (s ∷ l) = rw (back-length p s.bytes, same-sound p l)
 
 pub same_size : (p : Bool) (l : List Slot) → data_size (map (out_of_column p) l) ≡ data_size l
-unfolding flat map
+unfolding map
 same_size p [] = refl
 same_size p (s ∷ l) =
-    rw (length-append (from_column p s.bytes) (flat (data_of (map (out_of_column p) l))), length-append s.bytes (flat (data_of l)), back-length p s.bytes, same_size p l)
+    rw (length-append (from_column p s.bytes) (concat (data_of (map (out_of_column p) l))), length-append s.bytes (concat (data_of l)), back-length p s.bytes, same_size p l)
 
 pub same-each : (p : Bool) (rule : Rule) (listed : List ℕ) (l : List Slot) (i : ℕ) → each rule listed (map (out_of_column p) l) i ≡ each rule listed l i
 unfolding each map

@@ -9,10 +9,9 @@ use lib.Seq.{take-suc, take_all}
 use native.Mathlib.Omega.{arith}
 use native.Mathlib.Nat.{sub-zero}
 use native.Mathlib.Numerals.{add-one}
-use Rattle.std.specs.Prelude.{if◌then◌else◌}
+use Rattle.std.specs.Prelude.{if◌then◌else◌, filter}
 use Rattle.word.specs.Run.{run}
 use Rattle.word.proofs.RunLaws.{length_run, first-get}
-use Rattle.word.specs.Lists.{filter}
 use Rattle.text.specs.Text.{give, read_field}
 use Rattle.text.specs.Format.{number, read_all}
 use Rattle.text.specs.Inner.Answer.{value_answer}
@@ -22,12 +21,13 @@ use Rattle.text.proofs.Putting.{put-nothing}
 use Rattle.heap.specs.State.{last_generation}
 use Rattle.heap.specs.Lent.{Lent, columns, cut}
 use Rattle.heap.specs.declared.Heap.{Heap}
-use Rattle.heap.proofs.Recycled.{filter-append}
+use Rattle.std.proofs.lemmas.List.Elements.{filter-append}
 use Rattle.heap.proofs.Runs.{recount, set-free, set-retired}
 use Rattle.page_check.specs.Inner.Partition.{values_at, past_values, ValuesParsed}
 use Rattle.page_check.proofs.Lists.{value_found, value_none}
 use Rattle.page_check.proofs.Filling.{read_next, read_some, read-end}
-use Rattle.page_reader.specs.Inner.Columns.{worn_in, stay_free, retire, with_parted, Below, PutIn, ages, FreeParted}
+use Rattle.page_reader.specs.Inner.Columns.{stay_free, retire, with_parted, PutIn, ages, FreeParted}
+use Rattle.heap.specs.Inner.Columns.{worn_in, Below}
 use Rattle.page_reader.proofs.Filled.{col-next}
 
 -- i of the slots are in their runs, f of them free and r retired, and the others stand in the text from k on

@@ -23,8 +23,9 @@ use Rattle.heap.proofs.Testing.{formed-tested, formed-test}
 use Rattle.heap.proofs.Keeping.{take-sound}
 use Rattle.heap.proofs.Recycled.{recycle-sound}
 use Rattle.heap_calls.proofs.Allocating.{alloc-sound}
-use Rattle.heap_calls.specs.Pins.{rising_from}
-use Rattle.heap_edit.proofs.Soundness.{seal-sound, resolved_live}
+use Rattle.word.specs.Lists.{rising_from}
+use Rattle.heap_edit.proofs.Soundness.{seal-sound}
+use Rattle.heap.proofs.LiveSlots.{resolved_live}
 use Rattle.door.specs.HeapCalls.{Outcome, outcome_of, enough, admitted}
 use Rattle.std.specs.Prelude.{Ok, Err}
 use Rattle.door.specs.HeapCalls.{ready}

@@ -14,7 +14,7 @@ use Rattle.std.specs.Prelude.{Option, is_some}
 use Rattle.text.proofs.Laws.{literal-back}
 use Rattle.refusal.specs.declared.Answer.{Answer}
 use Rattle.heap.specs.State.{data_of}
-use Rattle.heap.specs.Packing.{flat}
+use Rattle.std.specs.List.{concat}
 use Rattle.heap.specs.Sizes.{sizes_fit}
 use Rattle.heap.specs.Lent.{Lent, lent, stored, view, slot_count, pool_size}
 use Rattle.heap.specs.WellFormed.{well_formed}
@@ -40,8 +40,8 @@ unfolding sizes_fit
 fits-there = refl
 
 new-pool : (S : ℕ) → pool_size (stored S 4096 (new 1)) ≡ 4096
-unfolding stored new flat
-new-pool S = length-pad 4096 (flat (data_of [])) (omega arith)
+unfolding stored new
+new-pool S = length-pad 4096 (concat (data_of [])) (omega arith)
 
 module _ (m w n v p : List ℕ) (lm : length m ≡ 64) (lw : length w ≡ 64) (ln : length n ≡ 384) (lv : length v ≡ 256) (lp : length p ≡ 4096) where
   enough-there : enough m w (lent no_header n v p) ≡ true

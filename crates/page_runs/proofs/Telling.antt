@@ -8,17 +8,15 @@ use native.Mathlib.Omega.{arith}
 use native.Mathlib.Nat.{zero-add}
 use lib.ListN.{length, take, length-append, length-take}
 use lib.Dec.{leb}
-use lib.Seq.{take_all}
 use borrow.Author.Tests.{le-leb}
 use Rattle.std.specs.Prelude.{if◌then◌else◌}
 use Rattle.std.specs.Prelude.{Result as Outcome, Ok, Err}
 use Rattle.word.specs.Result.{Result, ok, refused}
 use Rattle.heap.specs.Calls.{done}
-use Rattle.word.proofs.PutLaws.{take_put}
 use Rattle.text.specs.Text.{newline, decimal, line}
 use Rattle.text.specs.Put.{put_text, Puts}
 use Rattle.text.proofs.Laws.{digits-few}
-use Rattle.text.proofs.Putting.{puts-puts}
+use Rattle.text.proofs.Putting.{puts-puts, taken_back}
 use Rattle.refusal.specs.Told.{answered, here, nothing}
 use Rattle.refusal.specs.declared.Answer.{Answer}
 use Rattle.heap.specs.State.{State}
@@ -41,9 +39,6 @@ use Rattle.page_runs.specs.Printed.{names_line, shown_by, shown, after_names}
 use Rattle.page_runs.specs.Inner.Steps.{text_left, Lies, Short, Ran, Says, Ends}
 use Rattle.page_runs.proofs.Naming.{literal-short}
 use Rattle.page_runs.proofs.Starting.{names-length}
-
-taken_back : (out t : List ℕ) → take (length t) (put_text out 0 t) ≡ t
-taken_back out t = ap (λ (n : ℕ). take n (put_text out 0 t)) (sym (zero-add (length t))) ∙ take_put out 0 t (length t) (omega arith) (omega arith) ∙ take_all (length t) t (omega arith)
 
 -- a text at the start of the output
 pub ends-put : (a : List ℕ) {b : List ℕ} {r : ℕ} (t : List ℕ) → length t ≤ 14592 → r ≡ length t → b ≡ put_text a 0 t → Ends t b r

@@ -9,7 +9,8 @@ use Rattle.word.proofs.RunLaws.{run-get, first-get}
 use Rattle.text.specs.Put.{Puts}
 use Rattle.text.proofs.Putting.{puts_none, puts-at}
 use Rattle.heap.specs.State.{Slot}
-use Rattle.heap.specs.Packing.{start_of, data_at}
+use Rattle.heap.specs.Packing.{data_at}
+use Rattle.word.specs.Run.{start_of}
 use Rattle.heap.specs.Lent.{Lent, lent, slot_in}
 use Rattle.heap.specs.declared.Heap.{Heap}
 use Rattle.heap.proofs.Packing.{start-next}

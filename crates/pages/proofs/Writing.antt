@@ -21,7 +21,7 @@ use Rattle.heap.specs.Lent.{Lent, slot_in}
 use Rattle.pages.specs.Inner.Columns.{slot, slots_in, field, head_fields}
 
 module _ {A : Type 0} (f : A → List ℕ) where
-  flat_append : (xs ys : List A) → flat_map f (xs ++ ys) ≡ flat_map f xs ++ flat_map f ys
+  pub flat_append : (xs ys : List A) → flat_map f (xs ++ ys) ≡ flat_map f xs ++ flat_map f ys
   unfolding flat_map
   flat_append [] ys = refl
   flat_append (x ∷ xs) ys = rw (flat_append xs ys) (sym (append_assoc (f x) (flat_map f xs) (flat_map f ys)))

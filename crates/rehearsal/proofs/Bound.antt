@@ -13,7 +13,7 @@ use Rattle.text.specs.Text.{decimal, line}
 use Rattle.text.specs.Format.{All}
 use Rattle.text.proofs.Laws.{decimal-length}
 use Rattle.ty.specs.Types.{Table}
-use Rattle.heap.specs.Packing.{flat}
+use Rattle.std.specs.List.{concat}
 use Rattle.heap.specs.State.{Slot, State, live, data_of, data_size, with_free}
 use Rattle.heap.specs.Calls.{Changed, refuse, charged, grown, last, but_last, placed as at_place, alloc_from}
 use Rattle.collection.specs.Swept.{live_size}
@@ -103,13 +103,13 @@ module _ {W : Type 0} (I : W → Type 0) (most : ℕ) (G : World W) (keeps : Kee
 
 -- ---- the heap's
 
-pub live-most : (ss : List Slot) → live_size ss ≤ length (flat (data_of ss)) + 32 * length ss
-unfolding live_size flat
+pub live-most : (ss : List Slot) → live_size ss ≤ length (concat (data_of ss)) + 32 * length ss
+unfolding live_size
 live-most [] = omega arith
-live-most (s ∷ ss) = go (live s) (live-most ss) (length-append s.bytes (flat (data_of ss)))
+live-most (s ∷ ss) = go (live s) (live-most ss) (length-append s.bytes (concat (data_of ss)))
   where
-    go : (b : Bool) → live_size ss ≤ length (flat (data_of ss)) + 32 * length ss → length (s.bytes ++ flat (data_of ss)) ≡ length s.bytes + length (flat (data_of ss))
-        → (if b then (length s.bytes + 32) else 0) + live_size ss ≤ length (s.bytes ++ flat (data_of ss)) + 32 * suc (length ss)
+    go : (b : Bool) → live_size ss ≤ length (concat (data_of ss)) + 32 * length ss → length (s.bytes ++ concat (data_of ss)) ≡ length s.bytes + length (concat (data_of ss))
+        → (if b then (length s.bytes + 32) else 0) + live_size ss ≤ length (s.bytes ++ concat (data_of ss)) + 32 * suc (length ss)
     go true h e = omega arith
     go false h e = omega arith
 

@@ -9,7 +9,7 @@ use lib.ListN.{length}
 use Rattle.ty.specs.Types.{Table}
 use Rattle.heap.specs.State.{State}
 use Rattle.heap.specs.Lent.{Lent, view, slot_count, pool_size}
-use Rattle.heap_calls.specs.Pins.{rising_from}
+use Rattle.word.specs.Lists.{rising_from}
 use Rattle.script.specs.Inner.Found.{DataThere}
 use Rattle.rehearsal.specs.Lines.{Line as Step, alloc, store, drop}
 use Rattle.std.specs.Prelude.{if◌then◌else◌, is_some}

@@ -12,7 +12,7 @@ use borrow.Author.Tests.{ne_eqb, eq-eqb}
 use Rattle.std.specs.Prelude.{if◌then◌else◌}
 use Rattle.word.specs.Run.{run}
 use Rattle.word.proofs.RunLaws.{run-get, length_run}
-use Rattle.heap_calls.specs.Pins.{rising_from}
+use Rattle.word.specs.Lists.{rising_from}
 use Rattle.rehearsal.specs.Runs.{Held as Name, handles}
 use Rattle.rehearsal_names.specs.Inner.Names.{name, entries, kept, entries_in, named, CanHold, Held}
 use Rattle.rehearsal_names.specs.Inner.Moves.{turns_of, CanMove, moved_to, moved_words, InRoom, Squeezed, Roomy}

@@ -8,13 +8,12 @@ use lib.ListN.{length, take, drop, length-append, length-drop}
 use lib.Seq.{length-take-le}
 use borrow.Author.Tests.{ltb-true}
 use Rattle.word.specs.Put.{put}
-use Rattle.word.specs.Run.{run}
+use Rattle.word.specs.Run.{run, start_of}
 use Rattle.word.proofs.PutLaws.{put_whole}
 use Rattle.text.specs.Text.{hex, newline}
 use Rattle.text.specs.Put.{Puts}
 use Rattle.text.specs.Inner.Answer.{hex_at}
 use Rattle.text.proofs.Laws.{hex-back, hex-length}
-use Rattle.heap.specs.Packing.{start_of}
 use Rattle.heap.specs.State.{Slot, State, slot_at, live}
 use Rattle.heap.specs.Lent.{Lent, lent, view, slot_count, pool_size}
 use Rattle.heap.specs.WellFormed.{well_formed}

@@ -19,7 +19,7 @@ use Rattle.heap.specs.Calls.{new}
 use Rattle.heap.proofs.Storing.{view-stored}
 use Rattle.heap.proofs.Testing.{formed-tested}
 use Rattle.object_door.proofs.Making.{made-formed}
-use Rattle.heap_calls.specs.Pins.{rising_from}
+use Rattle.word.specs.Lists.{rising_from}
 use Rattle.collection.specs.Swept.{live_size}
 use Rattle.rehearsal.specs.Lines.{Line}
 use Rattle.rehearsal.specs.Runs.{Run, Figures, starting, rehearsed, figures_line, figures_text}

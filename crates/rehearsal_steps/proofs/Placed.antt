@@ -22,7 +22,8 @@ use Rattle.heap.proofs.Carrying.{kept-sizes}
 use Rattle.object_door.specs.ObjectCalls.{allocating as alloc_call}
 use Rattle.object_door.proofs.Objects.{allocating-sound}
 use Rattle.script.proofs.Refusing.{alloc-numbered}
-use Rattle.rehearsal_place.proofs.Answering.{apart, is_ok, is-refused}
+use Rattle.refusal.proofs.Numbers.{never-0}
+use Rattle.rehearsal_place.proofs.Answering.{is_ok, is-refused}
 use Rattle.collection.specs.Swept.{live_size}
 use Rattle.rehearsal.specs.Runs.{placed, allocating}
 use Rattle.rehearsal.specs.OnHeap.{heaped}
@@ -36,7 +37,7 @@ use Rattle.rehearsal_steps.proofs.Sums.{Sums, alloc-sums}
 -- what has ended it, and its number
 pub not-ended : {X : Type 0} (o : Option Refusal) → is_some o ≡ true → ended o ≡ 0 → X
 not-ended None e z = absurd (let w : ◌≡◌ {A = ℕ} 0 1 = cc in omega arith)
-not-ended (Some why) e z = apart why z
+not-ended (Some why) e z = never-0 why z
 
 pub still-open : (o : Option Refusal) → is_some o ≡ false → o ≡ None
 still-open None e = refl

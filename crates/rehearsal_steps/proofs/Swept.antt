@@ -22,7 +22,7 @@ use Rattle.heap.specs.Calls.{Changed, gc_due}
 use Rattle.heap.specs.Done.{Tells}
 use Rattle.heap.proofs.Storing.{view-stored, slots-stored}
 use Rattle.heap.proofs.Testing.{formed-tested}
-use Rattle.heap_calls.specs.Pins.{rising_from}
+use Rattle.word.specs.Lists.{rising_from}
 use Rattle.reach.specs.Marking.{State as Marks, marking}
 use Rattle.collection.specs.Swept.{live_size, swept}
 use Rattle.collection.specs.Shown.{shown}
@@ -36,7 +36,7 @@ use Rattle.rehearsal_names.proofs.Naming.{entries-handles}
 use Rattle.rehearsal_steps.specs.declared.Going.{Going}
 use Rattle.rehearsal_steps.specs.Inner.Going.{ended, going_on, ended_by, InOrder, Cleared, Goes}
 use Rattle.rehearsal_steps.specs.Inner.Steps.{collecting_in}
-use Rattle.rehearsal_place.proofs.Answering.{apart}
+use Rattle.refusal.proofs.Numbers.{never-0}
 use Rattle.rehearsal_steps.proofs.Rooting.{collected-kept}
 
 -- ---- what a collection leaves
@@ -64,7 +64,7 @@ leaving h (some m) = ((λ n q. was-done n q), λ q. (refl, swept-live h m.marks 
 
 pub says-refused : (reply : Reply) → is_err reply ≡ true → (a : Result Unit) → told reply ≡ answered nothing nothing a → (k : ℕ) × (a ≡ refused k)
 says-refused (Ok (x, y)) o a e = cc o
-says-refused (Err why) o (ok u) e = apart why (ap (λ (r : Answer). r.number) e)
+says-refused (Err why) o (ok u) e = never-0 why (ap (λ (r : Answer). r.number) e)
 says-refused (Err why) o (refused k) e = (k, refl)
 
 pub says-ok : (reply : Reply) → IsOk reply → (a : Result Unit) → told reply ≡ answered nothing nothing a → ((k : ℕ) → a ≡ refused k → 0 < k) → a ≡ ok tt

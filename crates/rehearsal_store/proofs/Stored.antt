@@ -25,7 +25,7 @@ use Rattle.heap.specs.Done.{Tells}
 use Rattle.heap.proofs.Storing.{view-stored}
 use Rattle.heap.proofs.Testing.{formed-tested}
 use Rattle.heap.proofs.Keeping.{live_inside}
-use Rattle.heap_edit.proofs.Soundness.{resolved_live}
+use Rattle.heap.proofs.LiveSlots.{resolved_live}
 use Rattle.heap_edit.proofs.Cases.{write-beyond, write_done}
 use Rattle.collection.specs.Swept.{live_size}
 use Rattle.rehearsal.specs.Runs.{Run, held_at, storing, wrote, ends}

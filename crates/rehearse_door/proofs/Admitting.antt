@@ -20,10 +20,10 @@ use Rattle.heap.specs.Lent.{Lent, lent, slot_count, pool_size}
 use Rattle.heap.specs.Sizes.{sizes_fit}
 use Rattle.heap.specs.declared.Heap.{Heap}
 use Rattle.heap.proofs.Sizes.{Sizes, sizes-tested}
-use Rattle.door.specs.HeapCalls.{Test, admitted, whether, zeros, scratch_after, Entered, outcome_of}
+use Rattle.door.specs.HeapCalls.{Test, whether, zeros, scratch_after, Entered, outcome_of}
 use Rattle.door.specs.HeapCalls.{Entry}
 use Rattle.door.specs.HeapCalls.{ready}
-use Rattle.door.proofs.Entering.{fails, passes, cleared-in, holding, whether-not, whether-ready}
+use Rattle.door.proofs.Entering.{fails, passes, cleared-in, holding, whether-not, whether-ready, none_left}
 use Rattle.object_door.specs.ObjectCalls.{handed}
 use Rattle.rehearsal.specs.Lines.{is_text}
 use Rattle.rehearsal.specs.Machine.{plain}
@@ -62,10 +62,6 @@ unfolding roomy
 roomy-tested n o e = leb-true n (o / 80) e
 
 -- ---- the tests
-
-none_left : ready ≡ admitted []
-unfolding admitted
-none_left = refl
 
 module _ (g : Given) (narrow wide pool out : ℕ) (w m k : List ℕ) where
   abbrev S : ℕ

@@ -16,10 +16,10 @@ use Rattle.std.specs.Prelude.{Option, Some, None, is_some}
 use Rattle.word.specs.Ones.{keep, passing, ones_from}
 use Rattle.word.specs.Put.{put}
 use Rattle.word.proofs.OnesLaws.{ones_none}
-use Rattle.word.proofs.PutLaws.{put-none, put-put}
+use Rattle.word.proofs.PutLaws.{put-none, put_one, put-put}
 use Rattle.rows.specs.Inner.Row.{bit_in, listed}
 use Rattle.rows.specs.Inner.Turns.{left, turns_left, Stands, Turned}
-use Rattle.rows.proofs.Listing.{after, leftover, whole, all_left, none_left, put_one}
+use Rattle.rows.proofs.Listing.{after, leftover, whole, all_left, none_left}
 
 -- ---- the lowest set digit of a number, and the digits above it
 

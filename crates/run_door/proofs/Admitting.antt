@@ -19,7 +19,7 @@ use Rattle.door.specs.HeapCalls.{test, admitted, enough, heap_tests, zeros, scra
 use Rattle.door.specs.HeapCalls.{Entry}
 use Rattle.std.specs.Prelude.{Err}
 use Rattle.door.specs.HeapCalls.{ready}
-use Rattle.door.proofs.Entering.{fails, passes, holding, cleared-in, call-cleared}
+use Rattle.door.proofs.Entering.{fails, passes, holding, cleared-in, call-cleared, fits-is}
 use Rattle.script.specs.Script.{begins_call, run_script}
 use Rattle.run_door.specs.Run.{run_tests, run_call}
 use Rattle.run_door.proofs.Answering.{CanRun}
@@ -39,16 +39,12 @@ module _ (room m w : List ℕ) (l : Lent) (t : List ℕ) where
   no_room h = record { found = fails _ _ _ (and-false (enough m w l) (leb (pool_size l) (length room)) (lt-leb (pool_size l) (length room) h)); left = refl }
 
   module _ {u : Bool} (v : u ≡ (leb (slot_count l) (length m) && leb (slot_count l) (length w))) where
-    fits-is : u ≡ enough m w l
-    unfolding enough
-    fits-is = v
-
     pub no-scratch : u ≡ false → Entered (room ∷ m ∷ w ∷ []) (run_tests room m w l t) (Err Scratch) (room ∷ m ∷ w ∷ [])
-    no-scratch e = record { found = fails _ _ _ (ap (λ (b : Bool). b && leb (pool_size l) (length room)) (sym fits-is ∙ e)); left = refl }
+    no-scratch e = record { found = fails _ _ _ (ap (λ (b : Bool). b && leb (pool_size l) (length room)) (sym (fits-is m w l v) ∙ e)); left = refl }
 
     module _ (h : pool_size l ≤ length room) (i : u ≡ true) where
       is-enough : enough m w l ≡ true
-      is-enough = sym fits-is ∙ i
+      is-enough = sym (fits-is m w l v) ∙ i
 
       all_there : (enough m w l && leb (pool_size l) (length room)) ≡ true
       all_there = simp (is-enough, le-leb (pool_size l) (length room) h)

@@ -25,8 +25,9 @@ use Rattle.heap.proofs.Keeping.{take-sound}
 use Rattle.heap.proofs.Recycled.{recycle-sound}
 use Rattle.heap.proofs.Carrying.{kept-sizes}
 use Rattle.heap.proofs.Testing.{formed-tested}
-use Rattle.heap_calls.specs.Pins.{rising_from, rising}
-use Rattle.heap_edit.proofs.Soundness.{resolved_live, seal-sound}
+use Rattle.word.specs.Lists.{rising, rising_from}
+use Rattle.heap_edit.proofs.Soundness.{seal-sound}
+use Rattle.heap.proofs.LiveSlots.{resolved_live}
 use Rattle.object_door.specs.ObjectCalls.{recycling}
 use Rattle.object_door.proofs.Objects.{allocating-sound}
 use Rattle.script.specs.Script.{Call, alloc, take, seal, recycle as recycles, line_does, read_call, doing, and_then, run_script}

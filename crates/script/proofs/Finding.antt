@@ -10,6 +10,7 @@ use Rattle.text.specs.Format.{number, bytes_line, pair}
 use Rattle.text.specs.Inner.Answer.{value_answer, literal_answer, hex_answer, hex_at}
 use Rattle.std.specs.Prelude.{Option, Some, None, is_some}
 use Rattle.text.proofs.Getting.{answer-none, field_found, hex-found, hex-missing, literal-found, literal-lost}
+use Rattle.text.proofs.Copying.{hex-is}
 use Rattle.script.specs.Script.{Call, alloc, take, seal, recycle, alloc_format, read_alloc, read_take, read_call, begins_call}
 use Rattle.script.specs.Inner.Found.{AllocReads, Reads, LineRead}
 use Rattle.script.specs.declared.AllocLine.{AllocLine}
@@ -20,10 +21,6 @@ use Rattle.script.proofs.Scripts.{begins-call, begins-bad}
 no-comma : digit_of comma ≡ none
 unfolding digit_of
 no-comma = refl
-
-hex-at : (s : List ℕ) (b : ℕ) (bs rest : List ℕ) → read_hex (drop b s) ≡ give bs rest → hex_at s b ≡ bs
-unfolding hex_at
-hex-at s b bs rest e = rw (hex_at, e)
 
 -- ---- `alloc`: type, kind, data
 
@@ -58,7 +55,7 @@ module _ (s : List ℕ) (at : ℕ) (r : Option (ℕ × ℕ)) (e : r ≡ value_an
       unfolding alloc_format pair bytes_line
       alloc-read n c h =
           let x = hex-found s b n c e₃ h in
-          let i : hex_at s b ≡ x.0 = hex-at s b x.0 (drop c s) x.1 in
+          let i : hex_at s b ≡ x.0 = hex-is s b x.0 (drop c s) x.1 in
           record {
             fields = rw (type-read, kind-read, x.1) (ap (λ (bs : List ℕ). give (t, (k, bs)) (drop c s)) (sym i));
             there = record { parsed = record { rest = drop c s; reads = x.1 ∙ ap (λ (bs : List ℕ). give bs (drop c s)) (sym i) }; counted = sym x.2 ∙ ap length (sym i); narrow = type-narrow };

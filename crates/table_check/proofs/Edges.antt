@@ -13,6 +13,7 @@ use Rattle.text.specs.Inner.Answer.{value_answer, hex_answer, hex_at}
 use Rattle.std.specs.Prelude.{Option, Some, None}
 use Rattle.text.proofs.Laws.{hex-back, hex-length}
 use Rattle.text.proofs.Getting.{suffix, answer-some, answer-none, hex-found, hex-missing}
+use Rattle.text.proofs.Copying.{hex-is}
 use Rattle.tables.specs.Table.{up_to, count_names, bytes_name, Counts, counts_format, bytes_format}
 use Rattle.tables.proofs.Laws.{num, last}
 use Rattle.table_check.specs.Inner.Edges.{CountsFound, CountsGot, BytesFound, BytesGot}
@@ -72,10 +73,6 @@ module _ (s : List ℕ) where
           }
 
 -- THE CONSTANTS' BYTES
-
-hex-is : (s : List ℕ) (b : ℕ) (bs rest : List ℕ) → read_hex (drop b s) ≡ give bs rest → hex_at s b ≡ bs
-unfolding hex_at
-hex-is s b bs rest e = rw (e, hex_at)
 
 module _ (s : List ℕ) (at : ℕ) where
   no_bytes : (bytes_format.read (drop at s) ≡ none) ⊎ ((l : List ℕ) × (e : ℕ) × (e < length s) × (bytes_format.read (drop at s) ≡ give l (drop e s))) → BytesGot s at None

@@ -14,7 +14,7 @@ use Rattle.tables.specs.Table.{Row, name_text, read_name, row_format}
 use Rattle.tables.specs.Lists.{names_in}
 use Rattle.tables.proofs.Endings.{Gathering, gather-begin, gather-next, gather-lost, gather-done, gather-prefix}
 use Rattle.tables.proofs.Naming.{NameFound, name-part}
-use Rattle.tables.proofs.Rowing.{flat_append}
+use Rattle.pages.proofs.Writing.{flat_append}
 use Rattle.table_check.proofs.Lining.{line_of, row_read, row-numbers-lost, row-name-lost, names-snoc}
 use Rattle.table_reader.specs.Inner.Ready.{rows_at, NamesReady}
 

@@ -27,9 +27,9 @@ use Rattle.std.specs.Prelude.{Ok, Err}
 use Rattle.tables.specs.Lists.{Names, names_format, rows_of, with_names, named_in}
 use Rattle.tables.specs.Inner.Answer.{GotAll, names_at}
 use Rattle.tables.proofs.Laws.{name-right}
-use Rattle.tables.proofs.Rowing.{flat_append}
+use Rattle.pages.proofs.Writing.{flat_append}
 use Rattle.table_writer.specs.Inner.Parts.{NamesFound, NamesGot, named, rest_length, Ready}
-use Rattle.table_writer.specs.Writing.{table_in, writing, leaving, TableWritten}
+use Rattle.table_writer.specs.Writing.{writing, leaving, TableWritten, lent_table}
 use Rattle.table_writer.specs.declared.NamesRead.{NamesRead}
 use Rattle.table_writer.proofs.RowsPut.{names-are}
 
@@ -274,22 +274,22 @@ module _ (w f c b names : List ℕ) where
       go none q = refl
       go (some r) q = rw q
 
-  pub written-17 : {x : Option NamesRead} (out : List ℕ) → NamesGot names (length w / 4) (length f / 2) (length c / 3) x → x ≡ None → TableWritten (table_in w f c b names) out out (Err Page)
-  unfolding table_in writing leaving
-  written-17 out g e = rw (named_none (g.lost e), table_in) (record { answer = refl; out = refl })
+  pub written-17 : {x : Option NamesRead} (out : List ℕ) → NamesGot names (length w / 4) (length f / 2) (length c / 3) x → x ≡ None → TableWritten (lent_table w f c b names) out out (Err Page)
+  unfolding lent_table writing leaving
+  written-17 out g e = rw (named_none (g.lost e), lent_table) (record { answer = refl; out = refl })
 
   module _ (x y : ℕ) (n : NamesFound names (length w / 4) (length f / 2) (length c / 3) x y) where
     named_some : named_in w f c b names ≡ some (named w f c b names x y)
     unfolding named_in names_format pair times name_format
     named_some = rw (n.types, n.fields, n.constants)
 
-    pub written-10 : (out : List ℕ) → table_good w f c b ≡ false → TableWritten (table_in w f c b names) out out (Err TypeTable)
-    unfolding table_in writing leaving
-    written-10 out e = rw (named_some, table_in, e) (record { answer = refl; out = refl })
+    pub written-10 : (out : List ℕ) → table_good w f c b ≡ false → TableWritten (lent_table w f c b names) out out (Err TypeTable)
+    unfolding lent_table writing leaving
+    written-10 out e = rw (named_some, lent_table, e) (record { answer = refl; out = refl })
 
-    taken : table_good w f c b ≡ true → table_in w f c b names ≡ ok (named w f c b names x y)
-    unfolding table_in
-    taken e = rw (named_some, table_in, e)
+    taken : table_good w f c b ≡ true → lent_table w f c b names ≡ ok (named w f c b names x y)
+    unfolding lent_table
+    taken e = rw (named_some, lent_table, e)
 
     module _ (good : table_good w f c b ≡ true) where
       pub text-rest : (rest : ℕ) → rest ≡ rest_length w f c → rest + length names + 2 * length b ≡ length (table_text (named w f c b names x y))
@@ -298,7 +298,7 @@ module _ (w f c b names : List ℕ) where
           ∙ text-length w f c b names x y n (types-whole w f c b good) (fields-whole w f c b good) (constants-whole w f c b good)
 
       pub written-7 : (out : List ℕ) (rest : ℕ) → rest ≡ rest_length w f c → leb (rest + length names + 2 * length b) (length out) ≡ false →
-          TableWritten (table_in w f c b names) out out (Err ShortList)
+          TableWritten (lent_table w f c b names) out out (Err ShortList)
       unfolding writing leaving
       written-7 out rest e q =
           let s : leb (length (table_text (named w f c b names x y))) (length out) ≡ false = ap (λ (m : ℕ). leb m (length out)) (sym (text-rest rest e)) ∙ q in
@@ -314,7 +314,7 @@ module _ (w f c b names : List ℕ) where
       }
 
       pub written : (out out' : List ℕ) (k rest : ℕ) → rest ≡ rest_length w f c → leb (rest + length names + 2 * length b) (length out) ≡ true →
-          Puts out out' 0 k (table_text (named w f c b names x y)) → TableWritten (table_in w f c b names) out out' (Ok (k, 0))
+          Puts out out' 0 k (table_text (named w f c b names x y)) → TableWritten (lent_table w f c b names) out out' (Ok (k, 0))
       unfolding writing leaving
       written out out' k rest e q p =
           let s : leb (length (table_text (named w f c b names x y))) (length out) ≡ true = ap (λ (m : ℕ). leb m (length out)) (sym (text-rest rest e)) ∙ q in

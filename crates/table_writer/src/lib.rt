@@ -9,7 +9,7 @@ ghost use Rattle.tables.specs.Table.{field, row_line, counts_line, count_names, 
 ghost use Rattle.tables.specs.Lists.{rows_of};
 ghost use Rattle.tables.specs.Inner.Answer.{names_at, RowsReady};
 ghost use Rattle.table_writer.specs.Inner.Parts.{NamesGot, named, rest_length, Ready};
-ghost use Rattle.table_writer.specs.Writing.{table_in, TableWritten};
+ghost use Rattle.table_writer.specs.Writing.{TableWritten, lent_table};
 
 use pages::Listed;
 use refusal::{Refusal, Reply};
@@ -171,7 +171,7 @@ fn put_table(table: &Table, names: &[u8], begin: NamesRead, out: &mut Out)
 
 // Writes a type table and its names as text to `out`, and answers the text's length, or why it is refused.
 pub fn write(table: &Table, names: &[u8], out: &mut [u8]) -> Reply
-    ensures { TableWritten (table_in table.now.types.now table.now.fields.now table.now.consts.now table.now.bytes.now names.now)
+    ensures { TableWritten (lent_table table.now.types.now table.now.fields.now table.now.consts.now table.now.bytes.now names.now)
         out.old out.new result }
 {
     let types = table.types.len() / 4;

@@ -11,7 +11,7 @@ use lib.ListN.{length, length-append}
 use lib.Pow.{le_ones, lt_of_le_ones}
 use borrow.Author.Tests.{lt-ltb, le-ltb, le-leb, lt-leb, eq-eqb, ne_eqb, ltb-true, ltb-false, leb-true, eqb-true}
 use native.Mathlib.Omega.{arith}
-use Rattle.text.specs.Text.{◌>>=◌, give, Bytes, newline, digits, decimal, hex_digit, hex, digit_of, Stops, ends, scan, capped, after, read_decimal, hex_digit_of, byte_of, read_hex, read_literal, read_field}
+use Rattle.text.specs.Text.{◌>>=◌, Reader, give, named, Bytes, newline, digits, decimal, hex_digit, hex, digit_of, Stops, ends, scan, capped, after, read_decimal, hex_digit_of, byte_of, read_hex, read_literal, read_field}
 use Rattle.std.specs.Prelude.{if◌then◌else◌}
 use Rattle.word.proofs.Bools.{and_both}
 use Rattle.text.specs.Format.{Format, Right, number, bytes_line, after_literal, or_else, either, always, pair, times, mapped, read_all, All}
@@ -24,6 +24,12 @@ none-not-some e = let z : ◌≡◌ {A = ℕ} 0 1 = cc in omega arith
 pub bind-some : {A B : Type 0} (o : Option A) (f : A → Option B) (b : B) → (o >>= f) ≡ some b → (a : A) × (o ≡ some a) × (f a ≡ some b)
 bind-some none f b e = absurd (none-not-some e)
 bind-some (some a) f b e = (a, refl, e)
+
+-- what a name, or else something other, gives
+pub by_name : {A X : Type 0} (o : Option (List ℕ)) (fields : Reader A) (other : Option (A × List ℕ)) (c : A) (rest : List ℕ) → named o fields other ≡ give c rest
+    → ((u : List ℕ) → o ≡ some u → fields u ≡ give c rest → X) → (other ≡ give c rest → X) → X
+by_name none fields other c rest e f g = g e
+by_name (some u) fields other c rest e f g = f u refl e
 
 -- a test that let a value through
 pub passed : {A : Type 0} (t : Bool) (o : Option A) (a : A) → (if t then o else none) ≡ some a → (t ≡ true) × (o ≡ some a)

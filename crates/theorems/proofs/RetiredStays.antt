@@ -6,9 +6,8 @@ use mathlib.Core.Option.{Option, none, some}
 use Prim.Native.Nat.{ℕ, ◌+◌, ◌-◌}
 use lib.ListN.{length}
 use lib.Dec.{ltb, leb}
-use Rattle.std.specs.Prelude.{if◌then◌else◌}
+use Rattle.std.specs.Prelude.{if◌then◌else◌, filter}
 use Rattle.word.specs.Result.{Result, ok, refused}
-use Rattle.word.specs.Lists.{filter}
 use Rattle.heap.specs.State.{State, slot_at, live, worn, data_size}
 use Rattle.heap.specs.Calls.{Changed, Object, refuse, done, release, on_slot, resolve, alloc_from, edit, edit_slot, write, reissue, take_into, take_slot, free, recycle, seal}
 use Rattle.reach.specs.Reach.{Graph, Starts}

@@ -14,7 +14,7 @@ use Rattle.refusal.specs.Told.{Reply}
 use Rattle.std.specs.Prelude.{Err}
 use Rattle.ty.specs.Check.{table_good}
 use Rattle.heap.specs.Lent.{Lent, view, slot_count}
-use Rattle.heap_calls.specs.Pins.{rising}
+use Rattle.word.specs.Lists.{rising}
 use Rattle.trace.specs.Listing.{Lists, written_to}
 use Rattle.door.specs.HeapCalls.{test, enough, heap_tests, zeros, Entered, asked, asked_of}
 use Rattle.door.specs.HeapCalls.{Entry}

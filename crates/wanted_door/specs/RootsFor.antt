@@ -13,7 +13,7 @@ use Rattle.ty.specs.Check.{table_good}
 use Rattle.trace.specs.Listing.{written_to}
 use Rattle.heap.specs.State.{State}
 use Rattle.heap.specs.Lent.{Lent, view}
-use Rattle.heap_calls.specs.Pins.{rising}
+use Rattle.word.specs.Lists.{rising}
 use Rattle.collection.specs.Shown.{shown}
 use Rattle.collection.specs.Collected.{graph, starts}
 use Rattle.door.specs.HeapCalls.{Test, test, admitted, whether, heap_tests, Asked, asking}

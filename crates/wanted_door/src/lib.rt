@@ -2,7 +2,7 @@
 // the heap (1), the type table (10), pins and wanted slots (14); then 21 where no roots do it, and 7. `marks` and `work` are scratch.
 #![tactic(auto)]
 
-ghost use Rattle.std.specs.Prelude.{◌≡◌, [], ◌∷◌, map, length, IfOk};
+ghost use Rattle.std.specs.Prelude.{◌≡◌, [], ◌∷◌, map, length, IfOk, filter};
 ghost use Rattle.ty.specs.View.{lent as table_in};
 ghost use Rattle.heap.specs.Lent.{lent};
 ghost use Rattle.heap.specs.Inner.Seen.{seen, state};
@@ -10,7 +10,6 @@ ghost use Rattle.trace.specs.Listing.{Lists};
 ghost use Rattle.door.specs.HeapCalls.{Entered, entry_of, asked};
 ghost use Rattle.mark.specs.Inner.Scratch.{high};
 ghost use Rattle.wanted.specs.Search.{noted};
-ghost use Rattle.wanted.specs.Way.{those};
 ghost use Rattle.wanted_door.specs.Inner.Listing.{CanName, CanSearch, named_in};
 ghost use Rattle.wanted_door.specs.RootsFor.{root_handles, wanted_tests, roots_call, roots_out, RightRoots};
 
@@ -59,7 +58,7 @@ fn admit<'a>(
 fn name_roots(tag: u8, narrow: &[u32], wanted: &[u32], work: &[u64], out: &mut [u64]) -> Reply
     requires { CanName narrow.now wanted.now work.now }
     ensures { Lists
-        (named_in tag narrow.now (those (noted 2 (map high work.now)) wanted.now) (length out.old))
+        (named_in tag narrow.now (filter (noted 2 (map high work.now)) wanted.now) (length out.old))
         result out.old out.new }
 {
     let n = list::count_roots(wanted, work);

@@ -10,9 +10,9 @@ use Rattle.word.proofs.Bools.{and_both}
 use Rattle.word.proofs.ListLaws.{length-tabulate, get_d_tabulate}
 use Rattle.text.specs.Text.{Bytes}
 use Rattle.text.specs.Format.{All}
-use Rattle.word.specs.Run.{run}
+use Rattle.word.specs.Run.{run, start_of}
 use Rattle.heap.specs.State.{no_slot}
-use Rattle.heap.specs.Packing.{start_of, data_at}
+use Rattle.heap.specs.Packing.{data_at}
 use Rattle.heap.proofs.Sound.{SlotSound, Sound}
 use Rattle.heap.proofs.Testing.{formed-tested}
 use Rattle.heap.specs.Lent.{Lent, slot_in, stored, view, slot_count, pool_size}

@@ -1,6 +1,6 @@
 -- The scratch of a marking as the state that crate `reach` defines: what the inner functions ask and ensure.
 use Rattle.trace.specs.Inner.Emit.{Answer}
-use Rattle.std.specs.Prelude.{Some, None, ℕ, ◌≤◌, ◌/◌, ◌%◌, ◌^◌, ◌≡◌, Bool, List, ◌++◌, map, length, take}
+use Rattle.std.specs.Prelude.{Some, None, ℕ, ◌≤◌, ◌/◌, ◌%◌, ◌^◌, ◌≡◌, Bool, List, ◌++◌, map, length, take, replicate}
 use Rattle.std.proofs.Math.Option.{Option, none, some}
 use Rattle.reach.specs.Marking.{State, Good, follow_all, pin_all}
 
@@ -22,6 +22,12 @@ pub record Scratch (slots : ℕ) (marks work : List ℕ) (n : ℕ) : Type 0 wher
   pub words : slots ≤ length work
   pub room : n ≤ length work
   pub good : Good slots (state_of marks work n)
+
+-- room for a marking of so many slots, and nothing marked yet
+pub record Clear (slots : ℕ) (marks work : List ℕ) : Type 0 where
+  pub few : slots ≤ 16777216
+  pub clear : marks ≡ replicate slots 0
+  pub room : slots ≤ length work
 
 -- the scratch holds the state s
 pub record Holds (slots : ℕ) (marks work : List ℕ) (n : ℕ) (s : State) : Type 0 where

@@ -4,7 +4,7 @@ use Rattle.word.specs.Result.{Result, ok, refused}
 use Rattle.handle.specs.Handle.{packed}
 use Rattle.heap.specs.Lent.{Lent, slot_count}
 use Rattle.heap.specs.WellFormed.{well_formed}
-use Rattle.heap_calls.specs.Pins.{rising}
+use Rattle.word.specs.Lists.{rising}
 use Rattle.wanted_door.specs.Inner.Picking.{Inside}
 
 -- the handles of these slots: their generations stand first in the runs of numbers
