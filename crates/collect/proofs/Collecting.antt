@@ -37,7 +37,8 @@ use Rattle.collection.proofs.Demand.{sized, stuck-collected}
 use Rattle.collection.proofs.Held.{dead-shows, held-sized, held-refused, held-collected}
 use Rattle.mark.specs.Inner.Told.{told, marks_in, heap_marks, Ready}
 use Rattle.mark.specs.Inner.Joining.{joined_marks}
-use Rattle.collect.specs.Collect.{collecting, finished, CanCollect}
+use Rattle.collect.specs.Collect.{collecting, finished}
+use Rattle.mark.specs.Inner.Scratch.{CanMark}
 
 -- ---- what follows a marking
 
@@ -102,7 +103,7 @@ none-marked (Err why) marks pins h e = ap (λ (n : ℕ). refuse n h) (let q : nu
 
 -- ---- the collections
 
-module _ (l : Lent) (pins marks work : List ℕ) (can : CanCollect l pins marks work) where
+module _ (l : Lent) (pins marks work : List ℕ) (can : CanMark l pins marks work) where
   -- the heap's slots are those in use, and have their place in the lent ones
   in_use : l.header.slots ≡ length (view l).slots
   unfolding stored header_of

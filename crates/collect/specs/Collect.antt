@@ -1,11 +1,8 @@
 -- What `collect` answers and leaves, over lent memory (01, "Heap", `collect`).
-use Rattle.std.specs.Prelude.{◌≡◌, true, List, ℕ, ◌≤◌, length, replicate, Result, Ok, Err}
+use Rattle.std.specs.Prelude.{List, ℕ, Result, Ok, Err}
 use Rattle.ty.specs.Types.{Table}
-use Rattle.heap.specs.Lent.{Lent, slot_count}
-use Rattle.heap.specs.WellFormed.{well_formed}
 use Rattle.heap.specs.State.{State}
 use Rattle.heap.specs.Calls.{Changed, refuse, done}
-use Rattle.word.specs.Lists.{rising}
 use Rattle.collection.specs.Swept.{swept}
 use Rattle.collection.specs.Shown.{shown}
 use Rattle.collection.specs.Collected.{graph, starts, collected}
@@ -20,12 +17,3 @@ collecting T roots pins h = collected (graph h (shown T h)) (starts h roots pins
 abbrev pub finished : Result Unit Refusal → (marks pins : List ℕ) → State → Changed Unit
 finished (Ok u) marks pins h = done tt (swept h marks pins)
 finished (Err why) marks pins h = refuse (number_of why) h
-
--- a well formed heap, pins that rise, and scratch that is zero, a mark and a word for each lent slot
-pub record CanCollect (l : Lent) (pins marks work : List ℕ) : Type 0 where
-  pub formed : well_formed l ≡ true
-  pub rises : rising pins ≡ true
-  pub marks_clear : marks ≡ replicate (length marks) 0
-  pub marks_room : slot_count l ≤ length marks
-  pub work_clear : work ≡ replicate (length work) 0
-  pub work_room : slot_count l ≤ length work

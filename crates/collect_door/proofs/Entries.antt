@@ -25,7 +25,8 @@ use Rattle.word.specs.Lists.{rising}
 use Rattle.addresses.specs.Listed.{paired}
 use Rattle.flow.specs.Function.{safepoint}
 use Rattle.roots.specs.Calls.{Lent as Code, function, right, need}
-use Rattle.collect.specs.Collect.{collecting, CanCollect}
+use Rattle.collect.specs.Collect.{collecting}
+use Rattle.mark.specs.Inner.Scratch.{CanMark}
 use Rattle.collect.specs.Inner.Safepoint.{at_safepoint, CanLook}
 use Rattle.door.specs.HeapCalls.{Test, test, admitted, enough, zeros, scratch_after, Entered, outcome, outcome_of}
 use Rattle.door.specs.HeapCalls.{Entry}
@@ -68,7 +69,7 @@ module _ {scratch scratch' : List (List ℕ)} {ts : List Test} {e : Entry} (s : 
       }
 
 module _ (g : Given) (l : Lent) {m w m' w' : List ℕ} {e : Entry} (s : Entered (m ∷ w ∷ []) (tests g m w l) e (m' ∷ w' ∷ [])) where
-  pub can-collect : e ≡ ready → CanCollect l g.pins m' w'
+  pub can-collect : e ≡ ready → CanMark l g.pins m' w'
   unfolding enough
   can-collect i =
       let t = and_both (leb (slot_count l) (length m)) (leb (slot_count l) (length w)) (holding s 0 i) in
@@ -189,7 +190,7 @@ Admitted a l m w r m' w' r' e =
     Entered (m ∷ w ∷ r ∷ []) (row_tests (need a.code) m w r l ++ input_tests a.types a.fields a.consts a.bytes a.code a.values a.pins a.addresses) e (m' ∷ w' ∷ r' ∷ [])
 
 module _ (a : Asked) (l : Lent) (m w r m' w' r' : List ℕ) (e : Entry) (s : Admitted a l m w r m' w' r' e) where
-  pub can-join : e ≡ ready → CanCollect l a.pins m' w' × (CanLook a.code a.values r' × (paired a.addresses ≡ true))
+  pub can-join : e ≡ ready → CanMark l a.pins m' w' × (CanLook a.code a.values r' × (paired a.addresses ≡ true))
   unfolding roomy coded enough
   can-join i =
       let t = and_both (enough m w l) (leb (need a.code) (length r)) (holding s 0 i) in

@@ -11,7 +11,7 @@ use borrow.Author.Tests.{ltb-true, ltb-false}
 use native.Mathlib.Omega.{arith}
 use native.Mathlib.Decide.{dec_lt}
 use Rattle.reach.specs.Reach.{Graph, Starts, ◌∈◌, First, Next, Linked, Chain, last_of, LeadsTo, Reached, UntraceableFrom}
-use Rattle.reach.specs.Marking.{State, Good, nothing, visit, visit_maybe, follow, follow_all, pin_if, pin_all, seeded, drained, marking, or_done, or_stuck}
+use Rattle.reach.specs.Marking.{State, Good, nothing, visit, visit_maybe, follow, follow_all, pin_if, pin_all, seeded, drained, marking, or_done, and_then}
 use Rattle.reach.proofs.Grown.{Grown, ∈-get_or, ∈-index, good-nothing, good-room, grown-same, grown-then, grown-in, grown-all, grown-at, grown-length, visit-grown, visit-in}
 
 -- objects have slots below n
@@ -216,11 +216,11 @@ module _ (G : Graph) (S : Starts) (n : ℕ) (z : Sized G n) where
   unfolding drained
   turn-answer f s k g h rest = test (ltb k (length s.queue)) refl
     where
-      trace : k < length s.queue → (r : Option (List ℕ)) → G.handles (get_or s.queue k 0) ≡ r → MarkingTells G S n (or_stuck r (λ hs. drained G f (follow_all G.resolve s hs) (suc k)))
+      trace : k < length s.queue → (r : Option (List ℕ)) → G.handles (get_or s.queue k 0) ≡ r → MarkingTells G S n (and_then r (λ hs. drained G f (follow_all G.resolve s hs) (suc k)))
       trace l none e = going-stuck s k g l e
       trace l (some hs) e = rest (follow_all G.resolve s hs) (going_next s k g l hs e) (omega arith)
 
-      test : (b : Bool) → ltb k (length s.queue) ≡ b → MarkingTells G S n (or_done b (or_stuck (G.handles (get_or s.queue k 0)) (λ hs. drained G f (follow_all G.resolve s hs) (suc k))) (some s))
+      test : (b : Bool) → ltb k (length s.queue) ≡ b → MarkingTells G S n (or_done b (and_then (G.handles (get_or s.queue k 0)) (λ hs. drained G f (follow_all G.resolve s hs) (suc k))) (some s))
       test true e = trace (ltb-true k (length s.queue) e) (G.handles (get_or s.queue k 0)) refl
       test false e = going_end s k g (ltb-false k (length s.queue) e)
 

@@ -28,7 +28,8 @@ use Rattle.collection.specs.Swept.{live_size, swept}
 use Rattle.collection.specs.Shown.{shown}
 use Rattle.collection.specs.Collected.{graph, starts, swept_by, collected}
 use Rattle.collection.proofs.SweptLaws.{swept-live}
-use Rattle.collect.specs.Collect.{collecting as collect_call, CanCollect}
+use Rattle.collect.specs.Collect.{collecting as collect_call}
+use Rattle.mark.specs.Inner.Scratch.{CanMark}
 use Rattle.rehearsal.specs.Runs.{handles, Run, World, collecting, swept as swept_run}
 use Rattle.rehearsal.specs.OnHeap.{heaped, collects_heap, left}
 use Rattle.rehearsal_names.specs.Inner.Names.{entries_in, named}
@@ -77,7 +78,7 @@ unfolding view
 live-shown l = refl
 
 module _ {l : Lent} {words : List ℕ} {g : Going} (order : InOrder l words g) where
-  pub can-collect : {marks work : List ℕ} → Cleared (slot_count l) marks work → CanCollect l [] marks work
+  pub can-collect : {marks work : List ℕ} → Cleared (slot_count l) marks work → CanMark l [] marks work
   unfolding rising_from
   can-collect c = record { formed = order.formed; rises = refl; marks_clear = c.marks_clear; marks_room = c.marks_room; work_clear = c.work_clear; work_room = c.work_room }
 

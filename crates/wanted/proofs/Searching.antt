@@ -14,12 +14,12 @@ use borrow.Author.Tests.{eq-eqb, ne_eqb}
 use Rattle.std.specs.Prelude.{if◌then◌else◌, filter}
 use Rattle.word.specs.Result.{ok, refused}
 use Rattle.reach.specs.Reach.{Graph, Starts, ◌∈◌}
-use Rattle.reach.specs.Marking.{State, visit, drained, marking}
+use Rattle.reach.specs.Marking.{State, visit, drained, marking, and_then}
 use Rattle.reach.proofs.Grown.{∈-get_or}
 use Rattle.wanted.specs.Wanted.{Rising, Objects}
 use Rattle.wanted.specs.Way.{candidates, root_slots, possible, roots_for, down_from}
 use Rattle.word.specs.Lists.{has}
-use Rattle.wanted.specs.Search.{Going, going, noted, noting, and_then, meeting, upward, again, downward, as_many, secondly, notes_of, searched_by, searched}
+use Rattle.wanted.specs.Search.{Going, going, noted, noting, meeting, upward, again, downward, as_many, secondly, notes_of, searched_by, searched}
 use Rattle.wanted.proofs.Picking.{Within}
 use Rattle.wanted.proofs.Flags.{rising-at}
 use Rattle.wanted.proofs.Steps.{Through, Past, pass, past-pass, pick, past-pick, stop, finish, dead-none, stuck-none}

@@ -20,7 +20,7 @@ use Rattle.door.specs.HeapCalls.{test, enough, heap_tests, zeros, Entered, asked
 use Rattle.door.specs.HeapCalls.{Entry}
 use Rattle.door.specs.HeapCalls.{ready}
 use Rattle.door.proofs.Entering.{and-holds, and-fails, and-more, holding, marks-zero, work-zero, ask-refused, ask-ready, whether-not, whether-ready, zeros-again, zeros-room}
-use Rattle.wanted_door.specs.Inner.Listing.{CanSearch}
+use Rattle.mark.specs.Inner.Scratch.{CanMark}
 use Rattle.wanted_door.specs.RootsFor.{root_handles, Given, table_in, wanted_tests, tests, roots_call, roots_out, RightRoots}
 use Rattle.wanted_door.proofs.Theorem.{rightly-found}
 
@@ -51,7 +51,7 @@ zeros-on : (m m' m'' m''' : List ℕ) → m' ≡ zeros m → length m'' ≡ leng
 zeros-on m m' m'' m''' a b c = c ∙ ap (λ (k : ℕ). replicate k 0) (b ∙ ap length a ∙ length-replicate (length m) 0)
 
 module _ (g : Given) (l : Lent) {m w m' w' : List ℕ} {e : Entry} (s : Entered (m ∷ w ∷ []) (tests g m w l) e (m' ∷ w' ∷ [])) where
-  pub can-search : e ≡ ready → CanSearch l g.wanted m' w'
+  pub can-search : e ≡ ready → CanMark l g.wanted m' w'
   unfolding enough
   can-search i =
       let t = and_both (leb (slot_count l) (length m)) (leb (slot_count l) (length w)) (holding s 0 i) in

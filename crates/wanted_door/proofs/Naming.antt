@@ -28,7 +28,7 @@ use Rattle.reach.proofs.Grown.{∈-index}
 use Rattle.collection.specs.Shown.{shown}
 use Rattle.collection.specs.Collected.{graph, starts}
 use Rattle.mark.specs.Inner.Graph.{Fit, graph_in}
-use Rattle.mark.specs.Inner.Scratch.{high, Clear}
+use Rattle.mark.specs.Inner.Scratch.{high, Clear, CanMark}
 use Rattle.mark.specs.Inner.Told.{starts_of, Ready}
 use Rattle.mark.proofs.Draining.{first-clear}
 use Rattle.mark.proofs.Formed.{formed-fit, formed-few, formed-count, formed-graph, generation-same}
@@ -39,7 +39,7 @@ use Rattle.wanted.proofs.Collecting.{objects}
 use Rattle.wanted.proofs.Searching.{Found, search-found}
 use Rattle.wanted_door.specs.RootsFor.{listed, root_handles}
 use Rattle.wanted_door.specs.Inner.Picking.{notes_if, Inside}
-use Rattle.wanted_door.specs.Inner.Listing.{handles_in, named_in, CanName, CanSearch}
+use Rattle.wanted_door.specs.Inner.Listing.{handles_in, named_in, CanName}
 
 -- ---- the ways out of `name_roots`
 
@@ -74,7 +74,7 @@ zero-notes n i = get_or-map high (replicate n 0) i 0 ∙ go (dec_lt i n)
     go (yes h) = ap high (get_or-replicate n i 0 0 h)
     go (no h) = ap high (get_or-eq_default (replicate n 0) 0 {n = i} (let k : length (replicate {A = ℕ} n 0) ≤ i = omega (arith, length-replicate {A = ℕ} n 0) in k))
 
-module _ (h : Heap) (narrow wide pool W marks work : List ℕ) (c : CanSearch (lent h narrow wide pool) W marks work) where
+module _ (h : Heap) (narrow wide pool W marks work : List ℕ) (c : CanMark (lent h narrow wide pool) W marks work) where
   abbrev l : Lent
   l = lent h narrow wide pool
 

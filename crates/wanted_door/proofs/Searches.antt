@@ -11,13 +11,13 @@ use Rattle.trace.specs.Inner.Emit.{Answer}
 use Rattle.std.specs.Prelude.{Option as Maybe, Some, None, if◌then◌else◌}
 use Rattle.std.specs.Prelude.{is_some}
 use Rattle.reach.specs.Reach.{Graph}
-use Rattle.reach.specs.Marking.{State, drained, marking}
+use Rattle.reach.specs.Marking.{State, drained, marking, and_then}
 use Rattle.mark.specs.Inner.Scratch.{high, state_of, Scratch, Traces, NotedBy, seeded_from, Clear}
 use Rattle.mark.specs.declared.queue.Queue.{Queue}
 use Rattle.mark.specs.Inner.Queues.{counted}
 use Rattle.mark.specs.Inner.Told.{starts_of}
 use Rattle.mark.proofs.Draining.{queue-length}
-use Rattle.wanted.specs.Search.{Going, going, noting, and_then, upward, downward, as_many, firstly, secondly, notes_of, searched_by, searched}
+use Rattle.wanted.specs.Search.{Going, going, noting, upward, downward, as_many, firstly, secondly, notes_of, searched_by, searched}
 use Rattle.wanted.proofs.Searching.{upward-live}
 use Rattle.wanted_door.specs.Inner.Picking.{going_of, Goes, notes_if, Inside, Room}
 

@@ -8,9 +8,9 @@ ghost use Rattle.heap.specs.Lent.{lent};
 ghost use Rattle.heap.specs.Inner.Seen.{seen, state};
 ghost use Rattle.trace.specs.Listing.{Lists};
 ghost use Rattle.door.specs.HeapCalls.{Entered, entry_of, asked};
-ghost use Rattle.mark.specs.Inner.Scratch.{high};
+ghost use Rattle.mark.specs.Inner.Scratch.{high, CanMark};
 ghost use Rattle.wanted.specs.Search.{noted};
-ghost use Rattle.wanted_door.specs.Inner.Listing.{CanName, CanSearch, named_in};
+ghost use Rattle.wanted_door.specs.Inner.Listing.{CanName, named_in};
 ghost use Rattle.wanted_door.specs.RootsFor.{root_handles, wanted_tests, roots_call, roots_out, RightRoots};
 
 use heap::Heap;
@@ -79,7 +79,7 @@ fn list_roots(
     marks: &mut [u8],
     work: &mut [u64],
 ) -> Reply
-    requires { CanSearch (seen view) wanted.now marks.old work.old }
+    requires { CanMark (seen view) wanted.now marks.old work.old }
     ensures { Lists
         (root_handles (table_in table.now) pins.now wanted.now (length out.old) (state view.entry))
         result out.old out.new }
