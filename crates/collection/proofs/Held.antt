@@ -28,7 +28,7 @@ use Rattle.collection.specs.Shown.{shown}
 use Rattle.collection.specs.Collected.{graph, collected}
 use Rattle.collection.specs.Inner.Held.{held_graph}
 use Rattle.heap.proofs.Keeping.{live_inside}
-use Rattle.reach.proofs.Grown.{has-in, in-has}
+use Rattle.reach.proofs.Visiting.{has-in, in-has}
 use Rattle.collection.proofs.SweptLaws.{swept-pins, swept-alive}
 use Rattle.collection.proofs.Demand.{sized, reached-live, collected-by, marks-there}
 

@@ -15,7 +15,7 @@ use Rattle.heap.specs.State.{State, bit, times, with_quarantine, with_reclaim}
 use Rattle.heap.specs.Calls.{freed, recycle}
 use Rattle.word.specs.Lists.{has}
 use Rattle.reach.specs.Reach.{◌∈◌}
-use Rattle.reach.proofs.Grown.{has-in, in-has}
+use Rattle.reach.proofs.Visiting.{has-in, in-has}
 
 -- ---- in a list, and how often
 

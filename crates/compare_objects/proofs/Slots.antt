@@ -18,9 +18,9 @@ use Rattle.heap.specs.Packing.{data_at}
 use Rattle.ty.specs.Types.{Table}
 use Rattle.trace.specs.Places.{shown_places}
 use Rattle.mark.specs.Inner.Graph.{Fit}
-use Rattle.mark.proofs.Bridge.{end-at}
+use Rattle.mark.proofs.TracedIntoQueue.{end-at}
 use Rattle.alike.specs.Inner.ByTurns.{◌and_then◌}
-use Rattle.compare.proofs.Going.{first-decides, second-decides, is-equal}
+use Rattle.compare.proofs.SideBySide.{first-decides, second-decides, is-equal}
 use Rattle.compare_objects.specs.declared.head.Head.{Head}
 use Rattle.compare_objects.specs.Inner.Sides.{head_of, head_order, data_beside, places_in, slots_beside}
 

@@ -2,6 +2,7 @@
 use Rattle.std.proofs.Common.{◌≡◌, ℕ, ◌+◌, ◌%◌, ◌<◌, ◌≤◌, Bool, true, not, ◌&&◌, ◌||◌, eqb, ltb, leb, List, [], ◌∷◌, ◌++◌, length, get_or, sym, refl, ap, ◌∙◌, ⊎_elim, arith, ltb-true, le-ltb, lt-ltb, eq-eqb, ne_eqb, eqb-true, le-leb, leb-true}
 use native.Mathlib.Decide.{dec_lt, ℕ_discrete}
 use lib.ListN.{get_or-eq_default}
+use Rattle.std.proofs.lemmas.List.{nil_from_length}
 use Rattle.word.specs.Lists.{all, all_below, same_list}
 use Rattle.word.proofs.Bools.{and_both, both-and, or_cases, or_left, or_right}
 use Rattle.word.proofs.ListLaws.{all-at, at_all, below_at, at-below, same-tested, same_test}
@@ -15,10 +16,6 @@ use Rattle.heap.proofs.Counting.{times-append, times-member}
 use Rattle.heap.proofs.Storing.{well-stored}
 
 -- ---- a slot
-
-no_bytes : (xs : List ℕ) → length xs ≡ 0 → xs ≡ []
-no_bytes [] h = refl
-no_bytes (x ∷ xs) h = absurd (omega arith)
 
 pub slot-tested : (s : Slot) → sound_slot s ≡ true → SlotSound s
 unfolding sound_slot
@@ -41,7 +38,7 @@ slot-tested s h =
         let b = and_both (eqb s.start 0) _ a.0 in
         let st : s.start ≡ 0 = eqb-true _ _ b.0 in
         let w : s.writes ≡ 0 = eqb-true _ _ b.1 in
-        let d : s.bytes ≡ [] = no_bytes s.bytes (eqb-true _ _ a.1) in
+        let d : s.bytes ≡ [] = nil_from_length s.bytes (eqb-true _ _ a.1) in
         λ j. record { generation = s.generation; kind = z j; type = t j; start = st j; writes = w j; bytes = d j }
 
 pub slot-tests : (s : Slot) → SlotSound s → sound_slot s ≡ true

@@ -19,7 +19,7 @@ use Rattle.heap.proofs.Sound.{Sound}
 use Rattle.heap.proofs.Keeping.{live_inside}
 use Rattle.reach.specs.Reach.{Graph, Starts, ◌∈◌}
 use Rattle.reach.specs.Marking.{State as Marks, marking}
-use Rattle.reach.proofs.Grown.{∈-cases}
+use Rattle.reach.proofs.Visiting.{∈-cases}
 use Rattle.collection.specs.Shown.{shown}
 use Rattle.collection.specs.Swept.{swept}
 use Rattle.collection.specs.Demand.{Survived, Collects}

@@ -27,7 +27,7 @@ use Rattle.heap_edit.proofs.Cases.{edit-unresolved, edit-full, edit-done, write-
 use Rattle.heap_edit.proofs.Soundness.{edit-sound, write-sound, reissue-sound, seal-sound}
 use Rattle.heap.proofs.LiveSlots.{resolved_live}
 use Rattle.reach.specs.Reach.{◌∈◌}
-use Rattle.reach.proofs.Grown.{∈-one}
+use Rattle.reach.proofs.Visiting.{∈-one}
 use Rattle.object_door.specs.ObjectCalls.{is_kind, allocating, recycling}
 use Rattle.histories.specs.Steps.{Step, alloc, reissue, edit, write, take, free, recycle, seal, ask, Told, slot, object, answering, issuing, silently, asking, Value}
 use Rattle.histories.specs.History.{handed, books, if_ok}

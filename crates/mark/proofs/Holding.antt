@@ -25,7 +25,7 @@ use Rattle.mark.specs.Inner.Scratch.{state_of, Scratch, Holds}
 use Rattle.mark.specs.Inner.Joining.{in_use, taking}
 use Rattle.mark.specs.declared.queue.Queue.{Queue}
 use Rattle.mark.specs.Inner.Queues.{state, Becomes}
-use Rattle.mark.proofs.Bridge.{follows-append}
+use Rattle.mark.proofs.TracedIntoQueue.{follows-append}
 use Rattle.mark.proofs.States.{Pushing, pushing-next, pushing-part, pushing-end}
 
 pub pins-append : (L : ℕ → Bool) (s : State) (a b : List ℕ) → pin_all L s (a ++ b) ≡ pin_all L (pin_all L s a) b

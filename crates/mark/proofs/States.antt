@@ -14,7 +14,7 @@ use Rattle.word.proofs.RunLaws.{run-get}
 use Rattle.handle.specs.Inner.Columns.{live_in}
 use Rattle.handle.proofs.ResolveLaws.{live-beyond, live-not, live-there}
 use Rattle.reach.specs.Marking.{State, Good, visit, pin_if}
-use Rattle.reach.proofs.Grown.{sum-set, sum-le, visit-grown, good-nothing}
+use Rattle.reach.proofs.Visiting.{sum-set, sum-le, visit-grown, good-nothing}
 use Rattle.trace.specs.Inner.Emit.{over}
 use Rattle.mark.specs.Inner.Scratch.{low, high, state_of, Holds, Scratch, Noted, Clear}
 use Rattle.mark.specs.declared.queue.Queue.{Queue}

@@ -18,7 +18,7 @@ use Rattle.collection.specs.Shown.{shown as shown_in}
 use Rattle.collection.proofs.Demand.{sized}
 use Rattle.alike.specs.Same.{shown, Counted, OneTable, Slots}
 use Rattle.models.specs.HeapModel.{heap_model}
-use Rattle.models.proofs.Front.{counted, one_table, object-shown}
+use Rattle.models.proofs.DescriptorFirst.{counted, one_table, object-shown}
 
 module _ (T : Table) (h : State) where
   pub heap-resolve : (x : ℕ) → found (resolve h x) ≡ (heap_model T h).resolve x

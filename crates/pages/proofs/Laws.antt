@@ -9,7 +9,7 @@ use native.Mathlib.Omega.{arith}
 use lib.ListN.{length, length-map}
 use Rattle.text.specs.Text.{give, ◌>>=◌, ascii, line, newline, comma, Bytes, digit_of, read_literal}
 use Rattle.text.specs.Format.{Right, number, bytes_line, after_literal, either, always, pair, times, mapped, read_all, All}
-use Rattle.text.proofs.Laws.{none-not-some, bind-some, some_inj, number-right, bytes-line-right, after-literal-right, Any, Apart, either-right, always-right, pair-right, times-right, mapped-where, mapped-right, injective}
+use Rattle.text.proofs.Laws.{none-not-some, bind-some, some_inj, number-right, bytes-line-right, after-literal-right, Any, Apart, either-right, always-right, pair-right, times-right, mapped-where, mapped-right, injective, Listed}
 use Rattle.heap.specs.State.{Slot, State, slot_at, worn}
 use Rattle.std.specs.Prelude.{if◌then◌else◌, filter}
 use Rattle.planes.proofs.Laws.{bytes-planes, bytes-restored, restored-planes, planes-restored}
@@ -83,9 +83,6 @@ mapped-all {A} good to from g e n l h k = record { all = alls l h; count = lengt
     backs : (l : List A) → All good l → map from (map to l) ≡ l
     backs [] h = refl
     backs (a ∷ l) h = ap₂ (λ (x : A) (y : List A). x ∷ y) (e a h.0) (backs l h.1)
-
-abbrev pub Listed : {A : Type 0} → (A → Type 0) → ℕ → List A → Type 0
-Listed good n l = All good l × (length l ≡ n)
 
 pub slots-right : (w p : Bool) (n : ℕ) → Right (slots_format w p n) (Listed (λ s. Fields-good w (fields_of s)) n)
 unfolding slots_format

@@ -27,7 +27,7 @@ use Rattle.trace.proofs.Walks.{walk_is}
 use Rattle.places.specs.StrideZero.{ShortConstants}
 use Rattle.places.specs.PlacesRise.{Apart, PlacesRise, HandlesRise}
 use Rattle.reach.specs.Reach.{◌∈◌}
-use Rattle.places.proofs.Least.{Least, places-least}
+use Rattle.places.proofs.PlacesFrom.{Least, places-least}
 use Rattle.places.proofs.NoRoom.{laid-inj, from-laid, from-dims, up, laid-parts, leaf-free, more}
 
 -- ---- lists of places

@@ -12,7 +12,7 @@ use native.Mathlib.Omega.{arith}
 use native.Mathlib.Decide.{dec_lt}
 use Rattle.reach.specs.Reach.{Graph, Starts, ◌∈◌, First, Next, Linked, Chain, last_of, LeadsTo, Reached, UntraceableFrom}
 use Rattle.reach.specs.Marking.{State, Good, nothing, visit, visit_maybe, follow, follow_all, pin_if, pin_all, seeded, drained, marking, or_done, and_then}
-use Rattle.reach.proofs.Grown.{Grown, ∈-get_or, ∈-index, good-nothing, good-room, grown-same, grown-then, grown-in, grown-all, grown-at, grown-length, visit-grown, visit-in}
+use Rattle.reach.proofs.Visiting.{Grown, ∈-get_or, ∈-index, good-nothing, good-room, grown-same, grown-then, grown-in, grown-all, grown-at, grown-length, visit-grown, visit-in}
 
 -- objects have slots below n
 pub record Sized (G : Graph) (n : ℕ) : Type 0 where

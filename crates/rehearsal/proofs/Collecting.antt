@@ -22,7 +22,7 @@ use Rattle.heap.specs.Calls.{resolve, released}
 use Rattle.word.specs.Lists.{has}
 use Rattle.reach.specs.Reach.{Graph, Starts, Reached, UntraceableFrom, ◌∈◌}
 use Rattle.reach.specs.Marking.{State as Marks, marking}
-use Rattle.reach.proofs.Grown.{∈-left, ∈-cases}
+use Rattle.reach.proofs.Visiting.{∈-left, ∈-cases}
 use Rattle.reach.proofs.Sound.{reached-first, reached-next, reached-ind, refused as stuck-exactly, lost as lost-exactly}
 use Rattle.collection.specs.Swept.{swept, goes, dropped}
 use Rattle.heap.proofs.Keeping.{live_inside}

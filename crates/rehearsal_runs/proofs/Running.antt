@@ -24,7 +24,7 @@ use Rattle.rehearsal_steps.specs.declared.Going.{Going}
 use Rattle.rehearsal_steps.specs.Inner.Going.{going_on, InOrder, Short, Cleared, Led, Goes}
 use Rattle.rehearsal_steps.specs.Inner.Steps.{doing_in}
 use Rattle.rehearsal_steps.proofs.Placed.{not-ended}
-use Rattle.rehearsal_line.proofs.Leading.{led-line}
+use Rattle.rehearsal_line.proofs.StatesBetweenLines.{led-line}
 use Rattle.rehearsal_runs.specs.Runs.{or_none, lines_of, run_of, Begun}
 
 -- lists of the same lengths

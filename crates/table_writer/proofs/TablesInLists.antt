@@ -18,7 +18,7 @@ use Rattle.tables.specs.Table.{Row, Named, most64, most32, Plain, RowWithin, Wit
 use Rattle.tables.specs.Lists.{numbers_in, names_in, all_names, Names, names_format, rows_of, with_names, named_in}
 use Rattle.tables.proofs.Laws.{name-right}
 use Rattle.tables.proofs.Rowing.{numbers-size}
-use Rattle.table_writer.proofs.Wholes.{rows-count, types-whole, fields-whole, constants-whole, counts-small}
+use Rattle.table_writer.proofs.WholeText.{rows-count, types-whole, fields-whole, constants-whole, counts-small}
 
 names_of : List Row → List (List ℕ)
 names_of rows = map (λ r. r.1) rows

@@ -500,6 +500,10 @@ module _ {A : Type 0} {f : Format A} {good : A → Type 0} (r : Right f good) wh
       all_join n t l rest x.0.0 x.0.1 y.0.0 y.0.1 (ap (λ (z : List A × List ℕ). z.0) v) (ap (λ (z : List A × List ℕ). z.1) v)
       (r.back t x.0.0 x.0.1 x.1) (all_back n x.0.1 y.0.0 y.0.1 y.1)
 
+-- so many values, each of them good
+abbrev pub Listed : {A : Type 0} → (A → Type 0) → ℕ → List A → Type 0
+Listed good n l = All good l × (length l ≡ n)
+
 pub times-right : {A : Type 0} {f : Format A} {good : A → Type 0} (n : ℕ) → Right f good → Right (times n f) (λ l. All good l × (length l ≡ n))
 unfolding times
 times-right n r = record { forth = λ l rest h. all-forth r n l rest h.0 h.1; back = λ t l rest e. all_back r n t l rest e }

@@ -11,13 +11,13 @@ use borrow.Author.Tests.{leb-true}
 use lib.Dec.{leb}
 use Rattle.word.proofs.Bools.{and_both}
 use Rattle.reach.specs.Reach.{Graph, Starts, ◌∈◌}
-use Rattle.reach.proofs.Grown.{∈-get_or, ∈-index}
+use Rattle.reach.proofs.Visiting.{∈-get_or, ∈-index}
 use Rattle.wanted.specs.Wanted.{Sorted, Rising}
 use Rattle.wanted.specs.Way.{seen, picked, candidates, root_slots, down_from}
 use Rattle.word.specs.Lists.{has, rising, rising_from}
 use Rattle.wanted.proofs.Counting.{compared}
 use Rattle.wanted.proofs.Picking.{Within}
-use Rattle.reach.proofs.Grown.{has-in, in-has}
+use Rattle.reach.proofs.Visiting.{has-in, in-has}
 
 picked-from : (t : List ℕ → ℕ → Bool) (ps ws : List ℕ) (q : ℕ) → q ∈ picked t ps ws → (q ∈ ps) ⊎ (q ∈ ws)
 unfolding picked

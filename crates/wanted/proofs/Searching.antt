@@ -15,7 +15,7 @@ use Rattle.std.specs.Prelude.{if◌then◌else◌, filter}
 use Rattle.word.specs.Result.{ok, refused}
 use Rattle.reach.specs.Reach.{Graph, Starts, ◌∈◌}
 use Rattle.reach.specs.Marking.{State, visit, drained, marking, and_then}
-use Rattle.reach.proofs.Grown.{∈-get_or}
+use Rattle.reach.proofs.Visiting.{∈-get_or}
 use Rattle.wanted.specs.Wanted.{Rising, Objects}
 use Rattle.wanted.specs.Way.{candidates, root_slots, possible, roots_for, down_from}
 use Rattle.word.specs.Lists.{has}
@@ -23,7 +23,7 @@ use Rattle.wanted.specs.Search.{Going, going, noted, noting, meeting, upward, ag
 use Rattle.wanted.proofs.Picking.{Within}
 use Rattle.wanted.proofs.Flags.{rising-at}
 use Rattle.wanted.proofs.Steps.{Through, Past, pass, past-pass, pick, past-pick, stop, finish, dead-none, stuck-none}
-use Rattle.wanted.proofs.Ends.{past-begin, down-skip, down-next, test-first, begin-first, begin-second, answered, none-answered}
+use Rattle.wanted.proofs.BetweenPasses.{past-begin, down-skip, down-next, test-first, begin-first, begin-second, answered, none-answered}
 
 -- ---- notes
 

@@ -19,8 +19,8 @@ use Rattle.trace.specs.Inner.Emit.{Answer, raw_of, queued}
 use Rattle.reach.specs.Reach.{Graph}
 use Rattle.reach.specs.Marking.{State, Good, visit, drained}
 use Rattle.mark.specs.Inner.Scratch.{low, high, state_of, Scratch, Holds, Traces, NotedBy}
-use Rattle.mark.proofs.Bridge.{queue-met, pin-noted}
-use Rattle.mark.proofs.Draining.{queue-length}
+use Rattle.mark.proofs.TracedIntoQueue.{queue-met, pin-noted}
+use Rattle.mark.proofs.QueueLoop.{queue-length}
 use Rattle.wanted.specs.Search.{Going, noted, meeting, again}
 use Rattle.wanted.proofs.Searching.{meeting-old, meeting-new, again-yes, again-no}
 use Rattle.wanted_door.specs.Inner.Picking.{going_of, Goes}

@@ -24,13 +24,13 @@ use Rattle.heap.specs.Lent.{Lent, lent, view, slot_count, pool_size}
 use Rattle.heap.proofs.Testing.{formed-tested}
 use Rattle.trace.specs.Listing.{Lists}
 use Rattle.reach.specs.Reach.{Graph, Starts, ◌∈◌}
-use Rattle.reach.proofs.Grown.{∈-index}
+use Rattle.reach.proofs.Visiting.{∈-index}
 use Rattle.collection.specs.Shown.{shown}
 use Rattle.collection.specs.Collected.{graph, starts}
 use Rattle.mark.specs.Inner.Graph.{Fit, graph_in}
 use Rattle.mark.specs.Inner.Scratch.{high, Clear, CanMark}
 use Rattle.mark.specs.Inner.Told.{starts_of, Ready}
-use Rattle.mark.proofs.Draining.{first-clear}
+use Rattle.mark.proofs.QueueLoop.{first-clear}
 use Rattle.mark.proofs.Formed.{formed-fit, formed-few, formed-count, formed-graph, generation-same}
 use Rattle.wanted.specs.Search.{noted, searched}
 use Rattle.wanted.specs.Outcome.{handle_at}

@@ -16,7 +16,7 @@ use Rattle.mark.specs.Inner.Scratch.{high, state_of, Scratch, Traces, NotedBy, s
 use Rattle.mark.specs.declared.queue.Queue.{Queue}
 use Rattle.mark.specs.Inner.Queues.{counted}
 use Rattle.mark.specs.Inner.Told.{starts_of}
-use Rattle.mark.proofs.Draining.{queue-length}
+use Rattle.mark.proofs.QueueLoop.{queue-length}
 use Rattle.wanted.specs.Search.{Going, going, noting, upward, downward, as_many, firstly, secondly, notes_of, searched_by, searched}
 use Rattle.wanted.proofs.Searching.{upward-live}
 use Rattle.wanted_door.specs.Inner.Picking.{going_of, Goes, notes_if, Inside, Room}

@@ -32,7 +32,7 @@ use Rattle.wanted.specs.Wanted.{Rising}
 use Rattle.wanted.specs.Way.{roots_for}
 use Rattle.wanted.specs.Outcome.{handle_at}
 use Rattle.wanted.proofs.Flags.{rises}
-use Rattle.wanted.proofs.Ends.{two-answers}
+use Rattle.wanted.proofs.BetweenPasses.{two-answers}
 use Rattle.wanted.proofs.Collecting.{best, none-serves, best-unique}
 use Rattle.wanted_door.specs.RootsFor.{listed, root_handles, Given, table_in, tests, roots_call, roots_out, Serving, Answering, RightRoots}
 

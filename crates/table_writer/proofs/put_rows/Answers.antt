@@ -9,7 +9,7 @@ use lib.ListN.{length, drop}
 use Rattle.tables.specs.Table.{read_name}
 use Rattle.tables.proofs.Endings.{lost}
 use Rattle.tables.proofs.Naming.{name-found, name-long}
-use Rattle.table_writer.proofs.RowsPut.{rows-put-begin, rows-put-some, rows-put-in, rows-put-fits, rows-put-next, rows-put-end}
+use Rattle.table_writer.proofs.LinesPut.{rows-put-begin, rows-put-some, rows-put-in, rows-put-fits, rows-put-next, rows-put-end}
 use Rattle.table_writer.proofs.put_rows.Goals as goal
 
 pub loop-i-init : goal.loop-i-init

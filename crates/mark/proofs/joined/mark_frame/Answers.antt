@@ -9,7 +9,7 @@ use Rattle.frame.proofs.Words.{frame-words}
 use Rattle.addresses.specs.Listed.{slots_of}
 use Rattle.mark.specs.Inner.Safepoints.{live_values, handles_in, pinned_in}
 use Rattle.mark.proofs.States.{then-same}
-use Rattle.mark.proofs.Draining.{reached, stuck}
+use Rattle.mark.proofs.QueueLoop.{reached, stuck}
 use Rattle.mark.proofs.FrameMarks.{frame-scratch, frame-stuck, frame-marked}
 use Rattle.mark.proofs.joined.mark_frame.Goals as goal
 

@@ -1,5 +1,5 @@
 -- `compare_objects::head::Head::of` meets its contract.
-use Rattle.mark.proofs.Bridge.{slot-rises}
+use Rattle.mark.proofs.TracedIntoQueue.{slot-rises}
 use Rattle.compare_objects.proofs.Slots.{head_read}
 use Rattle.compare_objects.proofs.head.Head.of.Goals as goal
 

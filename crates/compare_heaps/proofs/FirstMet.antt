@@ -15,10 +15,10 @@ use Rattle.ty.specs.Types.{Table}
 use Rattle.trace.specs.Places.{Places, shown_places}
 use Rattle.reach.specs.Reach.{◌∈◌}
 use Rattle.reach.specs.Marking.{State, drained}
-use Rattle.reach.proofs.Grown.{∈-get_or}
+use Rattle.reach.proofs.Visiting.{∈-get_or}
 use Rattle.mark.specs.Inner.Graph.{leads_to, graph_in}
 use Rattle.mark.specs.Inner.Scratch.{low, state_of, Scratch, Traces, seeded_from, Clear}
-use Rattle.mark.proofs.Draining.{queue-length, queue-slots, queue-at, queue-below}
+use Rattle.mark.proofs.QueueLoop.{queue-length, queue-slots, queue-at, queue-below}
 use Rattle.alike.specs.Same.{Object, Model, Traceable}
 use Rattle.alike.specs.Same.{Untraceable as Stops}
 use Rattle.alike.specs.Order.{met}
@@ -26,7 +26,7 @@ use Rattle.alike.proofs.Lists.{Once}
 use Rattle.alike.proofs.FirstMet.{met-once, met-reached}
 use Rattle.models.specs.Objects.{moved, slot_places, held_at, object_of}
 use Rattle.compare.specs.Inner.Turns.{lows, CanQueue, Turned}
-use Rattle.compare.proofs.Turning.{lows-length, lows-at}
+use Rattle.compare.proofs.TurnsPut.{lows-length, lows-at}
 use Rattle.saves.specs.Inner.Columns.{columns_model}
 use Rattle.saves.proofs.FromMarks.{columns-slots, marks-traced, marks-untraced}
 use Rattle.compare_objects.specs.Inner.Sides.{places_in, Queued}

@@ -30,7 +30,7 @@ use Rattle.mark.specs.Inner.Graph.{leads_to, shown_in, Fit}
 use Rattle.mark.specs.declared.queue.Queue.{Queue}
 use Rattle.mark.specs.Inner.Queues.{state, SameLoans, Becomes}
 use Rattle.mark.proofs.States.{high-over, unmarked-room, meet-marked, meet-new, then-same, Pushing, pushing-next, pushing-end}
-use Rattle.mark.proofs.Inside.{resolves-in}
+use Rattle.mark.proofs.ResolvedInside.{resolves-in}
 
 abbrev pub HoldsRaw : ℕ → Raw → State → Type 0
 HoldsRaw n r s = Holds n r.marks r.words r.count s

@@ -25,7 +25,7 @@ use Rattle.mark.specs.Inner.Told.{marks_in, starts_of, Ready}
 use Rattle.mark.specs.declared.queue.Queue.{Queue}
 use Rattle.mark.specs.Inner.Queues.{state, IsReady, SameLoans, counted, Reaches}
 use Rattle.mark.proofs.States.{scratch-start, same-again, then-same}
-use Rattle.reach.proofs.Grown.{∈-get_or, good-room}
+use Rattle.reach.proofs.Visiting.{∈-get_or, good-room}
 
 -- ---- the function's clauses
 

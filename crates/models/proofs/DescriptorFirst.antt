@@ -26,7 +26,7 @@ use Rattle.alike.specs.Order.{order, places_code}
 use Rattle.alike.specs.Inner.ByTurns.{◌and_then◌, object_order}
 use Rattle.alike.proofs.Orders.{order-equal}
 use Rattle.alike.proofs.Turns.{then-after, order-append}
-use Rattle.places.proofs.Least.{Least, places-least}
+use Rattle.places.proofs.PlacesFrom.{Least, places-least}
 use Rattle.places.proofs.PlacesRise.{places_if, kind-places}
 use Rattle.models.specs.Objects.{in_place, outside, moved, slot_places, held, held_at, object_of, model_of}
 use Rattle.models.specs.Inner.Along.{beside_order}

@@ -31,7 +31,7 @@ use Rattle.pages.proofs.Writing.{flat_append}
 use Rattle.table_writer.specs.Inner.Parts.{NamesFound, NamesGot, named, rest_length, Ready}
 use Rattle.table_writer.specs.Writing.{writing, leaving, TableWritten, lent_table}
 use Rattle.table_writer.specs.declared.NamesRead.{NamesRead}
-use Rattle.table_writer.proofs.RowsPut.{names-are}
+use Rattle.table_writer.proofs.LinesPut.{names-are}
 
 -- THE NAMES
 

@@ -16,7 +16,7 @@ use Rattle.std.specs.Prelude.{if◌then◌else◌, is_some}
 use Rattle.refusal.specs.declared.Refusal.TheVariants.{NothingThere}
 use Rattle.rehearsal_steps.proofs.Placed.{not-ended}
 use Rattle.heap.specs.Calls.{gc_due}
-use Rattle.rehearsal.specs.Runs.{Run, held_at, handles, swept, collecting, allocating, storing, dropping, does, unless}
+use Rattle.rehearsal.specs.Runs.{Run, held_at, handles, swept, collecting, allocating, storing, dropping, does}
 use Rattle.rehearsal.specs.OnHeap.{heaped, collects_heap}
 use Rattle.rehearsal.proofs.Holding.{unless-ended}
 use Rattle.rehearsal_lines.specs.Inner.Found.{DataIn}

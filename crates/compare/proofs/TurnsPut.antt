@@ -13,11 +13,11 @@ use native.Mathlib.Decide.{ℕ_discrete}
 use native.Mathlib.Omega.{arith}
 use Rattle.std.specs.Prelude.{if◌then◌else◌}
 use Rattle.reach.specs.Reach.{◌∈◌}
-use Rattle.reach.proofs.Grown.{∈-get_or}
+use Rattle.reach.proofs.Visiting.{∈-get_or}
 use Rattle.alike.specs.Order.{turn}
 use Rattle.word.specs.Lists.{has}
 use Rattle.alike.specs.Inner.Packed.{Packed, put_turn}
-use Rattle.reach.proofs.Grown.{has-in, has-not}
+use Rattle.reach.proofs.Visiting.{has-in, has-not}
 use Rattle.alike.proofs.Packing.{packed-next, packed-turn}
 use Rattle.compare.specs.Inner.Turns.{lows, CanQueue, Raised, CanTurn, Turned}
 
