@@ -28,7 +28,7 @@ use Rattle.object_door.specs.ObjectCalls.{handed}
 use Rattle.rehearsal.specs.Lines.{is_text}
 use Rattle.rehearsal.specs.Machine.{plain}
 use Rattle.rehearsal.proofs.Theorem.{text-theorem}
-use Rattle.rehearsal_place.proofs.Answering.{apart}
+use Rattle.refusal.proofs.Numbers.{never-0}
 use Rattle.rehearsal_runs.specs.Runs.{lines_of, CanRehearse, memory_after, Rehearses}
 use Rattle.rehearse_door.specs.Rehearse.{Given, table_in, plenty, roomy, rehearse_tests, figures_by, rehearse_call, PlainLines}
 
@@ -170,4 +170,4 @@ module _ (g : Given) (h : Heap) (narrow wide pool out w m k : List ℕ) {w' m' k
 
     -- a refusal is no success
     pub plain-refused : {out' : List ℕ} → PlainLines g (length narrow) (length pool) answer out out'
-    plain-refused z = apart why (sym (ap (λ (a : Answer). a.number) t) ∙ z)
+    plain-refused z = never-0 why (sym (ap (λ (a : Answer). a.number) t) ∙ z)
