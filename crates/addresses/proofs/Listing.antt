@@ -10,9 +10,9 @@ use lib.Dec.{leb}
 use borrow.Author.Tests.{leb-true, eq-eqb, ne_eqb}
 use Rattle.std.specs.Prelude.{if◌then◌else◌}
 use Rattle.word.proofs.Bools.{and_both}
-use Rattle.heap_calls.specs.Pins.{rising_from}
+use Rattle.word.specs.Lists.{rising_from}
 use Rattle.reach.specs.Reach.{◌∈◌}
-use Rattle.reach.proofs.Grown.{∈-left, ∈-right, ∈-cases}
+use Rattle.reach.proofs.Visiting.{∈-left, ∈-right, ∈-cases}
 use Rattle.addresses.specs.Listed.{addresses_of, paired, Listed, slot_of, slots_of}
 use Rattle.addresses.proofs.Rising.{rises-in}
 

@@ -10,7 +10,7 @@ use lib.Dec.{leb, eqb}
 use borrow.Author.Tests.{le-leb, leb-true, eq-eqb, ne_eqb}
 use Rattle.std.specs.Prelude.{if◌then◌else◌}
 use Rattle.word.proofs.Bools.{and_both, both-and, bool-ext}
-use Rattle.heap_calls.specs.Pins.{rising_from, rising}
+use Rattle.word.specs.Lists.{rising, rising_from}
 use Rattle.std.specs.Prelude.{Result, Ok, Err}
 use Rattle.std.specs.Bool.{nat_eq, nat_lt}
 use Rattle.std.specs.List.{IsAllAdjacentAnswer}

@@ -1,7 +1,7 @@
 -- The list of addresses with their slots (request [4]): "a list of address and slot index, addresses strictly rising". It is lent as one list of numbers: address,
 -- slot index, address, slot index, and so on.
 use Rattle.std.specs.Prelude.{◌≡◌, Bool, ◌&&◌, ◌⊎◌, List, [], ◌∷◌, ◌++◌, ℕ, ◌%◌, length, eqb, if◌then◌else◌}
-use Rattle.heap_calls.specs.Pins.{rising}
+use Rattle.word.specs.Lists.{rising}
 
 -- the addresses of the pairs
 unfoldable pub addresses_of : List ℕ → List ℕ

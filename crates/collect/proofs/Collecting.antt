@@ -4,12 +4,8 @@ use mathlib.Core.Bool.{true}
 use mathlib.Core.List.{List, ◌++◌}
 use mathlib.Core.Option.{Option, none, some}
 use Prim.Native.Nat.{ℕ, ◌≤◌}
-use native.Mathlib.Omega.{arith}
-use lib.ListN.{length, get_or, replicate}
-use lib.Dec.{eqb}
-use Rattle.refusal.specs.Told.{nothing}
+use Rattle.refusal.specs.Told.{nothing, Reply, number_of}
 use Rattle.refusal.specs.declared.Refusal.{Refusal}
-use Rattle.refusal.specs.Told.{Reply, number_of}
 use Rattle.std.specs.Prelude.{Result, Ok, Err}
 use Rattle.std.specs.Result.{IsErrAnd}
 use Rattle.word.specs.Result.{Result as Answer, ok, refused}
@@ -40,7 +36,11 @@ use Rattle.collection.proofs.Held.{dead-shows, held-sized, held-refused, held-co
 use Rattle.mark.specs.Inner.Told.{told, marks_in, heap_marks, Ready}
 use Rattle.mark.specs.Inner.Joining.{joined_marks}
 use Rattle.collect.specs.Collect.{collecting}
-use Rattle.collect.specs.Inner.Finished.{finished, CanCollect}
+use Rattle.collect.specs.Inner.Finished.{finished}
+use Rattle.mark.specs.Inner.Scratch.{CanMark}
+use native.Mathlib.Omega.{arith}
+use lib.ListN.{length, get_or, replicate}
+use lib.Dec.{eqb}
 
 -- ---- what follows a marking
 
@@ -105,7 +105,7 @@ none-marked (Err why) marks pins h e = ap (λ (n : ℕ). refuse n h) (let q : nu
 
 -- ---- the collections
 
-module _ (l : Lent) (pins marks work : List ℕ) (can : CanCollect l pins marks work) where
+module _ (l : Lent) (pins marks work : List ℕ) (can : CanMark l pins marks work) where
   -- the heap's slots are those in use, and have their place in the lent ones
   in_use : l.header.slots ≡ length (view l).slots
   unfolding stored header_of

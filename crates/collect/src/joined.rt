@@ -8,8 +8,8 @@ ghost use Rattle.roots.specs.Calls.{function, right, need};
 ghost use Rattle.roots.specs.Inner.Plans.{lent as lent_code};
 ghost use Rattle.mark.specs.Inner.Safepoints.{live_values, handles_in, pinned_in};
 ghost use Rattle.collection.specs.Joined.{joined_by};
-ghost use Rattle.collect.specs.Inner.Finished.{CanCollect};
 ghost use Rattle.collect.specs.Inner.Safepoint.{at_safepoint, CanLook, RootRow};
+ghost use Rattle.mark.specs.Inner.Scratch.{CanMark};
 
 use crate::sweep_after;
 use addresses::Pairs;
@@ -42,7 +42,7 @@ fn collect_row(
     marks: &mut [u8],
     work: &mut [u64],
 ) -> Reply
-    requires { CanCollect (lies lent.old) pins.now marks.old work.old }
+    requires { CanMark (lies lent.old) pins.now marks.old work.old }
     ensures replies { Replies nothing nothing lent.old lent.new result
         (joined_by (table_lent table.now)
         (handles_in (table_lent table.now) frame.entry)
@@ -93,7 +93,7 @@ pub fn collect_at(
     work: &mut [u64],
     rows: &mut [u64],
 ) -> Reply
-    requires can_collect { CanCollect (lies lent.old) pins.now marks.old work.old }
+    requires can_collect { CanMark (lies lent.old) pins.now marks.old work.old }
     requires can_look { CanLook (lent_code code) at.values.now rows.old }
     ensures replies { Replies nothing nothing lent.old lent.new result
         (at_safepoint (table_lent table.now)

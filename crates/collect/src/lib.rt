@@ -8,7 +8,8 @@ ghost use Rattle.heap.specs.Lent.{slot_count};
 ghost use Rattle.heap.specs.Inner.Loans.{lies, state, Replies};
 ghost use Rattle.ty.specs.View.{lent as table_lent};
 ghost use Rattle.collect.specs.Collect.{collecting};
-ghost use Rattle.collect.specs.Inner.Finished.{finished, CanCollect};
+ghost use Rattle.collect.specs.Inner.Finished.{finished};
+ghost use Rattle.mark.specs.Inner.Scratch.{CanMark};
 
 use heap::view_mut::ViewMut;
 use heap_calls::pinned::{Pinned, Pins};
@@ -34,7 +35,7 @@ fn sweep_after<P: Pinned>(
 }
 
 // The objects that are not reached from a root, a seal or a pin are dropped. The scratch is zero before and after.
-// Kept: `CanCollect` joins the heap, the pins and scratch, which the C interface lends by themselves.
+// Kept: `CanMark` joins the heap, the pins and scratch, which the C interface lends by themselves.
 pub fn collect(
     table: &Table,
     lent: &mut ViewMut,
@@ -43,7 +44,7 @@ pub fn collect(
     marks: &mut [u8],
     work: &mut [u64],
 ) -> Reply
-    requires { CanCollect (lies lent.old) pins.now marks.old work.old }
+    requires { CanMark (lies lent.old) pins.now marks.old work.old }
     ensures replies { Replies nothing nothing lent.old lent.new result
         (collecting (table_lent table.now) roots.now pins.now (state lent.old)) }
     ensures marks_unchanged { (marks.new ≡ marks.old) × (work.new ≡ work.old) }

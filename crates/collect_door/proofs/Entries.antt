@@ -4,16 +4,11 @@ use mathlib.Core.Bool.{Bool, true, false, ◌&&◌}
 use mathlib.Core.List.{List, [], ◌∷◌, ◌++◌, map}
 use mathlib.Core.Logic.{◌↔◌}
 use Prim.Native.Nat.{ℕ, ◌≤◌}
-use lib.ListN.{length}
-use lib.Dec.{leb, eqb}
-use borrow.Author.Tests.{le-leb, leb-true, eq-eqb, ne_eqb, eqb-true}
-use Rattle.std.specs.Prelude.{if◌then◌else◌}
+use Rattle.std.specs.Prelude.{if◌then◌else◌, Err}
 use Rattle.word.proofs.Bools.{bool-ext, and_both}
-use Rattle.refusal.specs.Told.{told, nothing}
+use Rattle.refusal.specs.Told.{told, nothing, Reply}
 use Rattle.refusal.specs.declared.Refusal.{Refusal}
 use Rattle.refusal.specs.declared.Refusal.TheVariants.{BrokenHeap, TypeTable, Pins, Function, NoMap, Scratch}
-use Rattle.refusal.specs.Told.{Reply}
-use Rattle.std.specs.Prelude.{Err}
 use Rattle.refusal.specs.declared.Answer.{Answer}
 use Rattle.ty.specs.Check.{table_good}
 use Rattle.heap.specs.Lent.{Lent, view, slot_count}
@@ -21,27 +16,24 @@ use Rattle.heap.specs.WellFormed.{well_formed}
 use Rattle.heap.specs.Calls.{refuse}
 use Rattle.heap.specs.Inner.Tells.{Tells}
 use Rattle.heap.proofs.Testing.{formed-tested}
-use Rattle.heap_calls.specs.Pins.{rising}
 use Rattle.addresses.specs.Listed.{paired}
 use Rattle.flow.specs.Function.{safepoint}
 use Rattle.roots.specs.Calls.{Lent as Code, function, right, need}
 use Rattle.collect.specs.Collect.{collecting}
-use Rattle.collect.specs.Inner.Finished.{CanCollect}
 use Rattle.collect.specs.Inner.Safepoint.{at_safepoint, CanLook}
-use Rattle.door.specs.HeapCalls.{Test, test, admitted, enough, zeros, scratch_after, outcome, outcome_of}
+use Rattle.door.specs.HeapCalls.{Test, test, admitted, enough, zeros, scratch_after, outcome, outcome_of, Entry, ready}
 use Rattle.door.specs.Inner.Entered.{Entered}
-use Rattle.door.specs.HeapCalls.{Entry}
-use Rattle.door.specs.HeapCalls.{ready}
-use Rattle.door.proofs.Entering.{fails, passes, more-ready, and-holds, and-fails, and-more, cleared-in, holding, call-refused, call-cleared, marks-zero, work-zero, rows-zero, zeros-again, zeros-room}
+use Rattle.door.proofs.Entering.{fails, passes, more-ready, and-holds, and-fails, and-more, cleared-in, holding, call-refused, call-cleared, marks-zero, work-zero, rows-zero, zeros-again, zeros-room, fits-is, none_left}
 use Rattle.collect_door.specs.Calls.{Given, table_in, given_tests, tests, collect_call, Asked, table, frame, pinning, coded, roomy, row_tests, input_tests, joining, joined_call}
 use Rattle.collect_door.specs.Demand.{RightlyCollected, Demand}
 use Rattle.collect_door.proofs.Theorem.{collect-rightly, demand}
+use Rattle.word.specs.Lists.{rising}
+use Rattle.mark.specs.Inner.Scratch.{CanMark}
+use lib.ListN.{length}
+use lib.Dec.{leb, eqb}
+use borrow.Author.Tests.{le-leb, leb-true, eq-eqb, ne_eqb, eqb-true}
 
 -- ---- collect: the type table and the pins
-
-none_left : ready ≡ admitted []
-unfolding admitted
-none_left = refl
 
 module _ (types fields consts bytes pins : List ℕ) where
   module _ (g : Bool) (eg : g ≡ table_good types fields consts bytes) where
@@ -74,7 +66,7 @@ module _ {scratch scratch' : List (List ℕ)} {ts : List Test} {e : Entry} (s : 
       }
 
 module _ (g : Given) (l : Lent) {m w m' w' : List ℕ} {e : Entry} (s : Entered (m ∷ w ∷ []) (tests g m w l) e (m' ∷ w' ∷ [])) where
-  pub can-collect : e ≡ ready → CanCollect l g.pins m' w'
+  pub can-collect : e ≡ ready → CanMark l g.pins m' w'
   unfolding enough
   can-collect i =
       let t = and_both (leb (slot_count l) (length m)) (leb (slot_count l) (length w)) (holding s 0 i) in
@@ -107,18 +99,14 @@ by-leb b n k e = bool-ext b (leb n k) (λ h. le-leb n k (e.0 h)) (λ h. e.1 (leb
 
 module _ (n : ℕ) (m w r : List ℕ) (l : Lent) where
   module _ {u : Bool} (v : u ≡ (leb (slot_count l) (length m) && leb (slot_count l) (length w))) where
-    fits-is : u ≡ enough m w l
-    unfolding enough
-    fits-is = v
-
     pub no-scratch : u ≡ false → Entered (m ∷ w ∷ r ∷ []) (row_tests n m w r l) (Err Scratch) (m ∷ w ∷ r ∷ [])
     unfolding roomy
-    no-scratch h = record { found = fails _ _ _ (simp (sym fits-is ∙ h)); left = refl }
+    no-scratch h = record { found = fails _ _ _ (simp (sym (fits-is m w l v) ∙ h)); left = refl }
 
     module _ (h : u ≡ true) (q : Bool) (e : q ≡ leb n (length r)) where
       pub no_rows : q ≡ false → Entered (m ∷ w ∷ r ∷ []) (row_tests n m w r l) (Err Scratch) (m ∷ w ∷ r ∷ [])
       unfolding roomy
-      no_rows j = record { found = fails _ _ _ (simp (sym fits-is ∙ h, sym e ∙ j)); left = refl }
+      no_rows j = record { found = fails _ _ _ (simp (sym (fits-is m w l v) ∙ h, sym e ∙ j)); left = refl }
 
       module _ (j : q ≡ true) (b : Bool) (m' w' r' : List ℕ) (f : (b ≡ well_formed l) × (m' ≡ zeros m)) (z : w' ≡ zeros w) (y : r' ≡ zeros r) where
         cleared : m' ∷ w' ∷ r' ∷ [] ≡ zeros m ∷ zeros w ∷ zeros r ∷ []
@@ -126,7 +114,7 @@ module _ (n : ℕ) (m w r : List ℕ) (l : Lent) where
 
         is-roomy : roomy n m w r l ≡ true
         unfolding roomy
-        is-roomy = simp (sym fits-is ∙ h, sym e ∙ j)
+        is-roomy = simp (sym (fits-is m w l v) ∙ h, sym e ∙ j)
 
         pub not-formed : b ≡ false → Entered (m ∷ w ∷ r ∷ []) (row_tests n m w r l) (Err BrokenHeap) (m' ∷ w' ∷ r' ∷ [])
         not-formed x = record { found = passes _ _ _ is-roomy (fails _ _ _ (sym f.0 ∙ x)); left = cleared }
@@ -199,7 +187,7 @@ Admitted a l m w r m' w' r' e =
     Entered (m ∷ w ∷ r ∷ []) (row_tests (need a.code) m w r l ++ input_tests a.types a.fields a.consts a.bytes a.code a.values a.pins a.addresses) e (m' ∷ w' ∷ r' ∷ [])
 
 module _ (a : Asked) (l : Lent) (m w r m' w' r' : List ℕ) (e : Entry) (s : Admitted a l m w r m' w' r' e) where
-  pub can-join : e ≡ ready → CanCollect l a.pins m' w' × (CanLook a.code a.values r' × (paired a.addresses ≡ true))
+  pub can-join : e ≡ ready → CanMark l a.pins m' w' × (CanLook a.code a.values r' × (paired a.addresses ≡ true))
   unfolding roomy coded enough
   can-join i =
       let t = and_both (enough m w l) (leb (need a.code) (length r)) (holding s 0 i) in

@@ -10,10 +10,8 @@ use Rattle.word.specs.Result.{ok, refused}
 use Rattle.refusal.specs.Told.{number_of, answered, nothing}
 use Rattle.refusal.specs.declared.Refusal.{Refusal}
 use Rattle.refusal.specs.declared.Refusal.TheVariants.{Untraceable, Scratch}
-use Rattle.refusal.specs.Told.{Reply}
 use Rattle.std.specs.Prelude.{Ok, Err}
-use Rattle.refusal.specs.declared.Answer.{Answer}
-use Rattle.refusal.proofs.Numbers.{told-once, number-once}
+use Rattle.refusal.proofs.Numbers.{never-0, number, number-once}
 use Rattle.heap.specs.State.{State}
 use Rattle.heap.specs.Lent.{Lent, stored, view, slot_count, pool_size}
 use Rattle.heap.specs.WellFormed.{well_formed}
@@ -26,18 +24,12 @@ use Rattle.door.specs.HeapCalls.{ready}
 use Rattle.door.proofs.Entering.{apart, calling-not, calling-ready, same-why}
 use Rattle.collect_door.specs.Demand.{done, refusal, Refusals}
 
-abbrev code : Reply → ℕ
-code (Ok (a, b)) = 0
-code (Err why) = 1
-
 -- no refusal is a success, and no two are the same
 never_done : {X : Type 0} (why : Refusal) → done ≡ refusal why → X
-never_done why q =
-    let z : ◌≡◌ {A = ℕ} 0 1 = ap code (told-once (Ok (0, 0)) (Err why) q) in
-    absurd (omega arith)
+never_done why q = never-0 why (sym (number q))
 
 one : (a b : Refusal) → refusal a ≡ refusal b → a ≡ b
-one a b q = number-once a b (ap (λ (x : Answer). x.number) q)
+one a b q = number-once a b (number q)
 
 other : {X : Type 0} → Untraceable ≡ Scratch → X
 other q = let z : ◌≡◌ {A = ℕ} 13 18 = ap number_of q in absurd (omega arith)
@@ -54,14 +46,14 @@ same-scratch e = ap (λ (x : Outcome). x.scratch) e
 zero-after : (why : Refusal) (scratch : List (List ℕ)) → (why ≡ Scratch → ⊥) → scratch_after (Err why) scratch ≡ map zeros scratch
 zero-after why scratch free = simp (ne_eqb (number_of why) 18 (λ q. free (number-once why Scratch q)))
 
--- what a collection does to a heap that no test turns away: `stuck`, that it can't be traced
-pub record Two (tests : List Test) (l : Lent) (call : State → Changed Unit) (stuck : Type 0) : Type 0 where
+-- what a collection does to a heap that no test turns away: `untraceable`, that it can't be traced
+pub record Two (tests : List Test) (l : Lent) (call : State → Changed Unit) (untraceable : Type 0) : Type 0 where
   pub formed : admitted tests ≡ ready → well_formed l ≡ true
   pub two : ((call (view l)).answer ≡ refused 13) ⊎ ((call (view l)).answer ≡ ok tt)
-  pub traced : admitted tests ≡ ready → ((call (view l)).answer ≡ refused 13) ↔ stuck
+  pub traced : admitted tests ≡ ready → ((call (view l)).answer ≡ refused 13) ↔ untraceable
   pub same : admitted tests ≡ ready → (call (view l)).answer ≡ refused 13 → (call (view l)).heap ≡ view l
 
-module _ (scratch : List (List ℕ)) (tests : List Test) (l : Lent) (call : State → Changed Unit) (stuck : Type 0) (c : Two tests l call stuck) (o : Outcome) (e : o ≡ calling nothing nothing scratch tests l call) where
+module _ (scratch : List (List ℕ)) (tests : List Test) (l : Lent) (call : State → Changed Unit) (untraceable : Type 0) (c : Two tests l call untraceable) (o : Outcome) (e : o ≡ calling nothing nothing scratch tests l call) where
   -- refused by a test, untraceable, or done
   by_call : {X : Type 0}
       → ((why : Refusal) → admitted tests ≡ Err why → o ≡ outcome_of (refusal why) l (scratch_after (Err why) scratch) → X)
@@ -88,7 +80,7 @@ module _ (scratch : List (List ℕ)) (tests : List Test) (l : Lent) (call : Stat
       (λ i p r. never_done Untraceable (sym q ∙ same_answer r))
       (λ i p r. (i, p, same_heap r))
 
-  pub refuses-rightly : Refusals scratch tests stuck l o
+  pub refuses-rightly : Refusals scratch tests untraceable l o
   refuses-rightly =
       record {
         answers = by_call (λ why i r. inr (why, same_answer r)) (λ i p r. inr (Untraceable, same_answer r)) (λ i p r. inl (same_answer r));
@@ -106,14 +98,14 @@ module _ (scratch : List (List ℕ)) (tests : List Test) (l : Lent) (call : Stat
             (λ i p r. same-scratch r);
       }
     where
-      to : (why : Refusal) → o.answer ≡ refusal why → (admitted tests ≡ Err why) ⊎ ((why ≡ Untraceable) × (admitted tests ≡ ready) × stuck)
+      to : (why : Refusal) → o.answer ≡ refusal why → (admitted tests ≡ Err why) ⊎ ((why ≡ Untraceable) × (admitted tests ≡ ready) × untraceable)
       to why q =
           by_call
           (λ w i r. inl (i ∙ ap (λ (x : Refusal). Err x) (one w why (sym (same_answer r) ∙ q))))
           (λ i p r. inr (one why Untraceable (sym q ∙ same_answer r), i, (c.traced i).0 p))
           (λ i p r. never_done why (sym (same_answer r) ∙ q))
 
-      from : (why : Refusal) → (admitted tests ≡ Err why) ⊎ ((why ≡ Untraceable) × (admitted tests ≡ ready) × stuck) → o.answer ≡ refusal why
+      from : (why : Refusal) → (admitted tests ≡ Err why) ⊎ ((why ≡ Untraceable) × (admitted tests ≡ ready) × untraceable) → o.answer ≡ refusal why
       from why x =
           by_call
           (λ w i r. ⊎_elim (λ k. same_answer r ∙ ap refusal (same-why (sym i ∙ k))) (λ k. apart (sym i ∙ k.1)) x)

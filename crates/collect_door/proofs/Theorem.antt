@@ -30,8 +30,7 @@ use Rattle.collection.proofs.Answers.{not-both, two-answers}
 use Rattle.collection.proofs.Demand.{collect-demand, collected-by, collected-sound, marks-there}
 use Rattle.collection.proofs.JoinedDemand.{joined-demand, joined_by, joined-answers, joined-sound}
 use Rattle.collect.specs.Collect.{collecting}
-use Rattle.door.specs.HeapCalls.{admitted, Outcome}
-use Rattle.door.specs.HeapCalls.{ready}
+use Rattle.door.specs.HeapCalls.{admitted, Outcome, ready}
 use Rattle.door.proofs.Entering.{all_hold}
 use Rattle.collect_door.specs.Calls.{Given, table_in, tests, collect_call, Asked, table, frame, pinning, coded, joined_tests, joining, joined_call}
 use Rattle.collect_door.specs.Demand.{done, Marks, Collected, objects_in, starts_in, RightlyCollected, StartsAt, Demand}
@@ -97,8 +96,8 @@ module _ (a : Asked) (marks work rows : List ℕ) (l : Lent) (o : Outcome) (e : 
   abbrev code : Function
   code = function a.code
 
-  abbrev stuck : Type 0
-  stuck = CannotTrace (table a) code a.pc a.values (frame a) (pinning a) (view l)
+  abbrev untraceable : Type 0
+  untraceable = CannotTrace (table a) code a.pc a.values (frame a) (pinning a) (view l)
 
   good : admitted (joined_tests a marks work rows l) ≡ ready → valid code ≡ true
   unfolding coded
@@ -107,7 +106,7 @@ module _ (a : Asked) (marks work rows : List ℕ) (l : Lent) (o : Outcome) (e : 
   joins : admitted (joined_tests a marks work rows l) ≡ ready → Joins (table a) code a.pc a.values (frame a) (pinning a) (view l) (joining a (view l))
   joins i = joined-demand (table a) code a.pc (good i) (all_hold (joined_tests a marks work rows l) 6 i) a.values (frame a) (pinning a) (all_hold (joined_tests a marks work rows l) 5 i) (view l)
 
-  two-joined : Two (joined_tests a marks work rows l) l (joining a) stuck
+  two-joined : Two (joined_tests a marks work rows l) l (joining a) untraceable
   two-joined =
       record {
         formed = λ i. all_hold (joined_tests a marks work rows l) 1 i;
@@ -117,7 +116,7 @@ module _ (a : Asked) (marks work rows : List ℕ) (l : Lent) (o : Outcome) (e : 
       }
 
   pub has_done : o.answer ≡ done → (admitted (joined_tests a marks work rows l) ≡ ready) × ((joining a (view l)).answer ≡ ok tt) × (o.heap ≡ stored (slot_count l) (pool_size l) (joining a (view l)).heap)
-  has_done = succeeded (marks ∷ work ∷ rows ∷ []) (joined_tests a marks work rows l) l (joining a) stuck two-joined o e
+  has_done = succeeded (marks ∷ work ∷ rows ∷ []) (joined_tests a marks work rows l) l (joining a) untraceable two-joined o e
 
   has-begun : o.answer ≡ done → (handles : List ℕ) × (frame a ≡ some handles) × ((S : Starts) × StartsAt a l handles S)
   has-begun q = go (frame a) refl
@@ -134,7 +133,7 @@ module _ (a : Asked) (marks work rows : List ℕ) (l : Lent) (o : Outcome) (e : 
   pub demand : Demand a marks work rows l o
   demand =
       record {
-        refusals = refuses-rightly (marks ∷ work ∷ rows ∷ []) (joined_tests a marks work rows l) l (joining a) stuck two-joined o e;
+        refusals = refuses-rightly (marks ∷ work ∷ rows ∷ []) (joined_tests a marks work rows l) l (joining a) untraceable two-joined o e;
         begins = has-begun;
         collected = λ q handles i S at.
             let k = has_done q in

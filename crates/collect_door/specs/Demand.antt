@@ -27,12 +27,12 @@ done = told (Ok (0, 0))
 abbrev pub refusal : Refusal → Answer
 refusal why = told (Err why)
 
--- What is right of a call's refusals. l is the lent memory before, o the answer, the lent memory and the scratch after it; `stuck`: it can't be traced.
-pub record Refusals (scratch : List (List ℕ)) (tests : List Test) (stuck : Type 0) (l : Lent) (o : Outcome) : Type 0 where
+-- What is right of a call's refusals. l is the lent memory before, o the answer, the lent memory and the scratch after it; `untraceable`: it can't be traced.
+pub record Refusals (scratch : List (List ℕ)) (tests : List Test) (untraceable : Type 0) (l : Lent) (o : Outcome) : Type 0 where
   -- it is done or refused
   pub answers : (o.answer ≡ done) ⊎ ((why : Refusal) × (o.answer ≡ refusal why))
   -- a refusal is given exactly when its test is the first to fail, and untraceable (13) exactly when none fails and it can't be traced
-  pub exactly : (why : Refusal) → (o.answer ≡ refusal why) ↔ ((admitted tests ≡ Err why) ⊎ ((why ≡ Untraceable) × (admitted tests ≡ ready) × stuck))
+  pub exactly : (why : Refusal) → (o.answer ≡ refusal why) ↔ ((admitted tests ≡ Err why) ⊎ ((why ≡ Untraceable) × (admitted tests ≡ ready) × untraceable))
   -- after a refusal every lent byte of the heap, and its header, is what it was
   pub unchanged : (why : Refusal) → o.answer ≡ refusal why → o.heap ≡ l
   -- scratch is zero after all but 18, and untouched then

@@ -6,11 +6,6 @@ use mathlib.Core.List.{List}
 use mathlib.Core.Logic.{◌↔◌, ⊎_elim}
 use mathlib.Core.Option.{Option, none, some}
 use Prim.Native.Nat.{ℕ, ◌<◌}
-use native.Mathlib.Omega.{arith}
-use native.Mathlib.Decide.{dec_lt}
-use lib.ListN.{length, get_or}
-use lib.Dec.{eqb}
-use borrow.Author.Tests.{eqb-true, eq-eqb}
 use Rattle.word.specs.Result.{Result, ok, refused}
 use Rattle.word.proofs.Bools.{bool-ext}
 use Rattle.heap.specs.State.{State, slot_at, live}
@@ -18,14 +13,20 @@ use Rattle.heap.specs.Calls.{refuse, done, resolve}
 use Rattle.heap.proofs.Sound.{Sound}
 use Rattle.reach.specs.Reach.{Graph, Starts, Reached, UntraceableFrom}
 use Rattle.reach.specs.Marking.{State as Marks, marking}
-use Rattle.reach.proofs.Sound.{Sized, Marked, Answer, marking-answer, reached-ind, reached-below, refused as stuck-exactly, kept as marked-exactly, lost as lost-exactly}
+use Rattle.reach.proofs.Sound.{Sized, Marked, marking-answer, reached-ind, reached-below, refused as stuck-exactly, kept as marked-exactly, lost as lost-exactly, MarkingTells}
 use Rattle.collection.specs.Swept.{swept}
 use Rattle.heap.proofs.Keeping.{live_inside}
-use Rattle.collection.proofs.SweptLaws.{swept-sound, swept_same, survivor, only-marked, resolved_live, resolved-before, outlives}
+use Rattle.collection.proofs.SweptLaws.{swept-sound, swept_same, survivor, only-marked, resolved-before, outlives}
 use Rattle.collection.specs.Collected.{found, graph, starts}
 use Rattle.collection.specs.Collecting.{swept_by, collected}
 use Rattle.collection.specs.Demand.{Survived}
 use Rattle.collection.specs.Inner.Collects.{Collects}
+use Rattle.heap.proofs.LiveSlots.{resolved_live}
+use native.Mathlib.Omega.{arith}
+use native.Mathlib.Decide.{dec_lt}
+use lib.ListN.{length, get_or}
+use lib.Dec.{eqb}
+use borrow.Author.Tests.{eqb-true, eq-eqb}
 
 pub found_ok : (r : Result ℕ) (i : ℕ) → found r ≡ some i → r ≡ ok i
 found_ok (ok j) i e = let w : j ≡ i = cc in ap ok w
@@ -36,7 +37,7 @@ module _ (h : State) (handles : ℕ → Option (List ℕ)) where
   pub sized : Sized (graph h handles) (length h.slots)
   sized =
       record {
-        resolves = λ x i e. live_inside h i (resolved_live h x i (found_ok (resolve h x) i e)).0;
+        resolves = λ x i e. live_inside h i (resolved_live h x i (found_ok (resolve h x) i e));
         lives = λ i e. live_inside h i e;
       }
 
@@ -45,8 +46,8 @@ module _ (h : State) (handles : ℕ → Option (List ℕ)) where
     pub reached-live : (o : ℕ) → Reached (graph h handles) S o → live (slot_at h o) ≡ true
     reached-live =
         reached-ind (graph h handles) S (λ o. live (slot_at h o) ≡ true)
-        (λ o f. ⊎_elim (λ p. p.1) (λ r. (resolved_live h r.0 o (found_ok (resolve h r.0) o r.2)).0) f)
-        (λ p o a n. (resolved_live h n.2.0 o (found_ok (resolve h n.2.0) o n.2.2)).0)
+        (λ o f. ⊎_elim (λ p. p.1) (λ r. resolved_live h r.0 o (found_ok (resolve h r.0) o r.2)) f)
+        (λ p o a n. resolved_live h n.2.0 o (found_ok (resolve h n.2.0) o n.2.2))
 
     module _ (m : Marks) (e : marking (graph h handles) S (length h.slots) ≡ some m) where
       marked : (o : ℕ) → Reached (graph h handles) S o → 0 < get_or m.marks o 0
@@ -56,7 +57,7 @@ module _ (h : State) (handles : ℕ → Option (List ℕ)) where
 
       marked-reached : (o : ℕ) → o < length h.slots → 0 < get_or m.marks o 0 → Reached (graph h handles) S o
       marked-reached o less some-mark =
-          let a : Marked (graph h handles) S (length h.slots) m = subst (Answer (graph h handles) S (length h.slots)) e (marking-answer (graph h handles) S (length h.slots) sized) in
+          let a : Marked (graph h handles) S (length h.slots) m = subst (MarkingTells (graph h handles) S (length h.slots)) e (marking-answer (graph h handles) S (length h.slots) sized) in
           ⊎_elim (λ z. absurd (omega arith)) (λ q. a.sound o q.1) (a.good.bits o less)
 
       reached : (o : ℕ) → live (slot_at h o) ≡ true → 0 < get_or m.marks o 0 → Reached (graph h handles) S o
@@ -66,7 +67,7 @@ module _ (h : State) (handles : ℕ → Option (List ℕ)) where
       survived-sweep =
           record {
             outlives = λ x o was.
-                (λ after. reached o (resolved_live h x o was).0 ((outlives h m.marks S.pins x o was).0 after), λ r. (outlives h m.marks S.pins x o was).1 (marked o r));
+                (λ after. reached o (resolved_live h x o was) ((outlives h m.marks S.pins x o was).0 after), λ r. (outlives h m.marks S.pins x o was).1 (marked o r));
             alive = λ o.
                 (λ l. let b = only-marked h m.marks S.pins o l in reached o b.0 b.1, λ r. ap live (survivor h m.marks S.pins o (marked o r)) ∙ reached-live o r);
             known = λ x o after. (resolved-before h m.marks S.pins x o after).0;

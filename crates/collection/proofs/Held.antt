@@ -5,32 +5,33 @@ use mathlib.Core.List.{List, []}
 use mathlib.Core.Logic.{◌⊎◌, inl, inr, ⊎_elim, ◌↔◌}
 use mathlib.Core.Option.{Option, none, some}
 use Prim.Native.Nat.{ℕ, ◌≤◌, ◌<◌}
-use native.Mathlib.Omega.{arith}
-use native.Mathlib.Decide.{dec_lt}
-use lib.ListN.{length, get_or}
-use lib.Dec.{ltb, eqb, leb}
-use borrow.Author.Tests.{lt-ltb, ltb-true, ltb-false, eq-eqb, ne_eqb, eqb-true}
 use Rattle.std.specs.Prelude.{if◌then◌else◌}
 use Rattle.word.proofs.Bools.{bool-ext}
 use Rattle.ty.specs.Types.{Table}
 use Rattle.trace.specs.Places.{words_at, kind_places, handles_of}
 use Rattle.heap.specs.State.{State, slot_at, live, bit, times}
-use Rattle.heap.specs.Calls.{member, done}
+use Rattle.heap.specs.Calls.{done}
 use Rattle.heap.proofs.Sound.{Sound}
 use Rattle.heap_calls.specs.Inner.Marks.{marked_slots}
 use Rattle.heap_calls.proofs.Marked.{mark-there}
 use Rattle.reach.specs.Reach.{Graph, Starts, First, Next, Reached, UntraceableFrom, ◌∈◌}
 use Rattle.reach.specs.Marking.{State as Marks, marking}
-use Rattle.reach.proofs.Sound.{Sized, Marked, Answer, marking-answer, reached-first, reached-next, reached-ind, refused as stuck-exactly}
+use Rattle.reach.proofs.Sound.{Sized, Marked, marking-answer, reached-first, reached-next, reached-ind, refused as stuck-exactly, MarkingTells}
 use Rattle.collection.specs.Swept.{swept}
 use Rattle.collection.specs.Shown.{shown}
 use Rattle.collection.specs.Collected.{graph}
 use Rattle.collection.specs.Collecting.{collected}
 use Rattle.collection.specs.Inner.Held.{held_graph}
 use Rattle.heap.proofs.Keeping.{live_inside}
-use Rattle.collection.proofs.Pinned.{in-member, member-in}
 use Rattle.collection.proofs.SweptLaws.{swept-pins, swept-alive}
 use Rattle.collection.proofs.Demand.{sized, reached-live, collected-by, marks-there}
+use Rattle.word.specs.Lists.{has}
+use Rattle.reach.proofs.Visiting.{has-in, in-has}
+use native.Mathlib.Omega.{arith}
+use native.Mathlib.Decide.{dec_lt}
+use lib.ListN.{length, get_or}
+use lib.Dec.{ltb, eqb, leb}
+use borrow.Author.Tests.{lt-ltb, ltb-true, ltb-false, eq-eqb, ne_eqb, eqb-true}
 
 -- a slot without an object shows nothing
 pub dead-shows : (T : Table) (h : State) (i : ℕ) → live (slot_at h i) ≡ false → shown T h i ≡ some []
@@ -96,7 +97,7 @@ module _ (h : State) (handles : ℕ → Option (List ℕ)) (dead : (i : ℕ) →
 
   module _ (m : Marks) (e : marking (held_graph h handles) S (length h.slots) ≡ some m) where
     answer : Marked H S n m
-    answer = subst (Answer H S n) e (marking-answer H S n held-sized)
+    answer = subst (MarkingTells H S n) e (marking-answer H S n held-sized)
 
     held-marked : (o : ℕ) → Reached H S o → get_or m.marks o 0 ≡ 1
     held-marked o r = answer.good.queued o (answer.whole o r)
@@ -145,10 +146,10 @@ module _ (h : State) (handles : ℕ → Option (List ℕ)) (dead : (i : ℕ) →
             let w = live-marked i alive in
             (λ k. let r = w.1 ((just i less).0 k) in omega arith, λ k. (just i less).1 (w.0 (let p : 0 < get_or m.marks i 0 = omega arith in p)))
 
-        pins-marked : (i : ℕ) → 0 < times i h.quarantine → member i S.pins ≡ member i (marked_slots marks)
+        pins-marked : (i : ℕ) → 0 < times i h.quarantine → has S.pins i ≡ has (marked_slots marks) i
         pins-marked i q = by (live (slot_at h i)) refl (ltb i (length h.slots)) refl
           where
-            by : (a : Bool) → live (slot_at h i) ≡ a → (b : Bool) → ltb i (length h.slots) ≡ b → member i S.pins ≡ member i (marked_slots marks)
+            by : (a : Bool) → live (slot_at h i) ≡ a → (b : Bool) → ltb i (length h.slots) ≡ b → has S.pins i ≡ has (marked_slots marks) i
             by true alive b e = absurd (over b e)
               where
                 over : (b : Bool) → ltb i (length h.slots) ≡ b → ⊥
@@ -159,9 +160,9 @@ module _ (h : State) (handles : ℕ → Option (List ℕ)) (dead : (i : ℕ) →
                 let less : i < length h.slots = ltb-true i (length h.slots) e in
                 let w = dead-marked i less gone in
                 let s = same i less in
-                bool-ext (member i S.pins) (not (eqb (get_or marks i 0) 0))
-                (λ t. ap not (ne_eqb (get_or marks i 0) 0 (λ z. let k = w.1 (member-in i S.pins t) in omega arith)))
-                (λ t. in-member i S.pins (w.0 (let p : 0 < get_or m.marks i 0 = nonzero (get_or marks i 0) t (get_or m.marks i 0) s in p)))
+                bool-ext (has S.pins i) (not (eqb (get_or marks i 0) 0))
+                (λ t. ap not (ne_eqb (get_or marks i 0) 0 (λ z. let k = w.1 (has-in S.pins i t) in omega arith)))
+                (λ t. in-has S.pins i (w.0 (let p : 0 < get_or m.marks i 0 = nonzero (get_or marks i 0) t (get_or m.marks i 0) s in p)))
                 ∙ mark-there i marks (omega arith)
               where
                 nonzero : (k : ℕ) → not (eqb k 0) ≡ true → (k' : ℕ) → k ≡ k' → 0 < k'

@@ -6,8 +6,6 @@ use mathlib.Core.Bool.{true}
 use mathlib.Core.List.{List, [], ◌∷◌, ◌++◌}
 use mathlib.Core.Option.{Option, none, some}
 use Prim.Native.Nat.{ℕ, ◌<◌}
-use native.Mathlib.Omega.{arith}
-use lib.ListN.{length, get_or}
 use Rattle.word.specs.Result.{ok, refused}
 use Rattle.ty.specs.Types.{Table}
 use Rattle.heap.specs.State.{State}
@@ -29,6 +27,8 @@ use Rattle.collection.specs.JoinedDemand.{Pinning, JoinedStarts}
 use Rattle.collection.proofs.Pinned.{same-members}
 use Rattle.collection.proofs.SweptLaws.{swept-pins}
 use Rattle.collection.proofs.Registers.{joined-starts}
+use native.Mathlib.Omega.{arith}
+use lib.ListN.{length, get_or}
 
 -- ---- what is reached rests on which handles and pins chains start at, not on their order
 
@@ -91,12 +91,12 @@ module _ (T : Table) (f : Function) (pc : ℕ) (good : valid f ≡ true) (at : s
       go (some handles) =
           record {
             untraceable = (
-              λ q. inr (handles, refl, record { from = S; starts = begins; stuck = all.untraceable.0 q }),
-              λ k. ⊎_elim (λ e. let z : ◌≡◌ {A = ℕ} 0 1 = cc in absurd (omega arith)) (λ (hs, e, s). (other hs e s.from s.starts).untraceable.1 s.stuck) k,
+              λ q. inr (handles, refl, record { from = S; starts = begins; untraceable = all.untraceable.0 q }),
+              λ k. ⊎_elim (λ e. let z : ◌≡◌ {A = ℕ} 0 1 = cc in absurd (omega arith)) (λ (hs, e, s). (other hs e s.from s.starts).untraceable.1 s.untraceable) k,
             );
             unchanged = all.unchanged;
             begins = λ hs e. (S, at-handles hs e begins);
-            succeeds = λ no free. all.succeeds (λ k. free handles refl (record { from = S; starts = begins; stuck = k }));
+            succeeds = λ no free. all.succeeds (λ k. free handles refl (record { from = S; starts = begins; untraceable = k }));
             collects = λ hs e S' b. other hs e S' b;
           }
         where

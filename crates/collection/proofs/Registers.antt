@@ -5,12 +5,8 @@ use mathlib.Core.Bool.{true, false, false≢true}
 use mathlib.Core.Logic.{◌⊎◌, inl, inr, ⊎_elim, ◌↔◌}
 use mathlib.Core.List.{List, [], ◌∷◌, ◌++◌}
 use Prim.Native.Nat.{ℕ}
-use native.Mathlib.Omega.{arith}
-use lib.ListN.{length, get_or}
-use lib.Dec.{eqb}
-use borrow.Author.Tests.{eqb-true, eq-eqb}
 use Rattle.heap.specs.State.{State}
-use Rattle.flow.specs.Function.{Function, has, valid, safepoint, Live, LiveList}
+use Rattle.flow.specs.Function.{Function, valid, safepoint, Live, LiveList}
 use Rattle.word.proofs.Bools.{or_cases, or_left, or_right, and_both, both-and}
 use Rattle.flow.proofs.Lists.{has-filter}
 use Rattle.flow.proofs.Validity.{valid-disjoint, safepoint-held, row_list}
@@ -20,6 +16,11 @@ use Rattle.reach.specs.Reach.{◌∈◌}
 use Rattle.collection.specs.Collected.{starts}
 use Rattle.collection.specs.Joined.{is_reference, live_references, registers_of, root_registers, pointer_registers, values_of, pins_at}
 use Rattle.collection.specs.JoinedDemand.{Pinning, LiveValue, AddressPin, JoinedStarts}
+use Rattle.word.specs.Lists.{has}
+use native.Mathlib.Omega.{arith}
+use lib.ListN.{length, get_or}
+use lib.Dec.{eqb}
+use borrow.Author.Tests.{eqb-true, eq-eqb}
 
 -- rising, and exactly the registers of classes 2 and 4 that some walk reads before writing
 pub live-references : (f : Function) (pc : ℕ) → valid f ≡ true → safepoint f pc ≡ true → LiveList f is_reference pc (live_references f pc)

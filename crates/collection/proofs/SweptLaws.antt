@@ -10,16 +10,18 @@ use lib.ListN.{length, get_or, take, replicate, length-set}
 use lib.Seq.{get_or-set_same, take_all}
 use lib.Dec.{eqb}
 use borrow.Author.Tests.{eq-eqb, ne_eqb}
-use Rattle.std.specs.Prelude.{if◌then◌else◌}
+use Rattle.std.specs.Prelude.{if◌then◌else◌, filter}
 use Rattle.word.specs.Result.{ok}
-use Rattle.word.specs.Lists.{filter}
 use Rattle.handle.specs.Handle.{index_of, resolve_by}
-use Rattle.handle.proofs.ResolveLaws.{Resolves, resolve-ok, resolve_same}
+use Rattle.handle.proofs.ResolveLaws.{resolve_same}
 use Rattle.heap.specs.State.{Slot, State, no_slot, slot_at, live, worn, times, with_since, with_live}
-use Rattle.heap.specs.Calls.{resolve, changed, release, released, member, recycle}
+use Rattle.heap.specs.Calls.{resolve, changed, release, released, recycle}
+use Rattle.word.specs.Lists.{has}
 use Rattle.heap.specs.WellFormed.{sound}
 use Rattle.heap.proofs.Sound.{Sound}
-use Rattle.heap.proofs.Recycled.{filter-append, recycle-sound}
+use Rattle.std.proofs.lemmas.List.Elements.{filter-append}
+use Rattle.heap.proofs.LiveSlots.{resolved, resolved_live}
+use Rattle.heap.proofs.Recycled.{recycle-sound}
 use Rattle.heap.proofs.Keeping.{at_same}
 use Rattle.collection.specs.Swept.{goes, dropped, drop_slot, drop_slots, live_size, all_dropped, drop_unmarked, swept}
 use Rattle.collection.proofs.Pinned.{recycle-same}
@@ -69,13 +71,6 @@ pub swept-tag : (h : State) (marks pins : List ℕ) → (swept h marks pins).tag
 unfolding swept drop_unmarked recycle
 swept-tag h marks pins = (all-dropped marks h).tag
 
--- the slot that a handle resolves to is live, and the one that the handle names
-pub resolved_live : (h : State) (x i : ℕ) → resolve h x ≡ ok i → (live (slot_at h i) ≡ true) × (index_of x ≡ i)
-unfolding resolve
-resolved_live h x i e =
-    let r : Resolves h.tag (length h.slots) (λ j. live (slot_at h j)) (λ j. (slot_at h j).generation) x i = resolve-ok h.tag (length h.slots) (λ j. live (slot_at h j)) (λ j. (slot_at h j).generation) x i e in
-    (r.alive, r.index)
-
 same-resolve : (h h' : State) (x : ℕ) → h'.tag ≡ h.tag → length h'.slots ≡ length h.slots → slot_at h' (index_of x) ≡ slot_at h (index_of x) → resolve h' x ≡ resolve h x
 unfolding resolve
 same-resolve h h' x et en es =
@@ -89,13 +84,12 @@ module _ (h : State) (marks pins : List ℕ) (x i : ℕ) where
   -- a handle that resolves afterwards did so before, and its slot is marked
   pub resolved-before : resolve (swept h marks pins) x ≡ ok i → (resolve h x ≡ ok i) × (0 < get_or marks i 0)
   resolved-before e =
-      let r : (live (slot_at (swept h marks pins) i) ≡ true) × (index_of x ≡ i) = resolved_live (swept h marks pins) x i e in
-      let m : 0 < get_or marks i 0 = (only-marked h marks pins i r.0).1 in
-      (sym (same-marked (subst (λ (k : ℕ). 0 < get_or marks k 0) (sym r.1) m)) ∙ e, m)
+      let m : 0 < get_or marks i 0 = (only-marked h marks pins i (resolved_live (swept h marks pins) x i e)).1 in
+      (sym (same-marked (subst (λ (k : ℕ). 0 < get_or marks k 0) (sym (resolved (swept h marks pins) x i e).index) m)) ∙ e, m)
 
   -- AN OBJECT OUTLIVES THE SWEEP EXACTLY IF IT WAS MARKED: its handle still resolves
   pub outlives : resolve h x ≡ ok i → (resolve (swept h marks pins) x ≡ ok i) ↔ (0 < get_or marks i 0)
-  outlives was = (λ e. (resolved-before e).1, λ m. same-marked (subst (λ (k : ℕ). 0 < get_or marks k 0) (sym (resolved_live h x i was).1) m) ∙ was)
+  outlives was = (λ e. (resolved-before e).1, λ m. same-marked (subst (λ (k : ℕ). 0 < get_or marks k 0) (sym (resolved h x i was).index) m) ∙ was)
 
 -- ---- lists and numbers
 
@@ -143,22 +137,22 @@ module _ (h : State) (marks pins : List ℕ) where
   whole = ap (dropped marks 0) (take_all (length h.slots) h.slots (omega arith))
 
   pub swept-free : (swept h marks pins).free
-      ≡ (h.free ++ filter (λ i. not (worn (slot_at (swept h marks pins) i))) (dropped marks 0 h.slots)) ++ filter (λ i. not (worn (slot_at (swept h marks pins) i))) (filter (λ i. not (member i pins)) h.quarantine)
+      ≡ (h.free ++ filter (λ i. not (worn (slot_at (swept h marks pins) i))) (dropped marks 0 h.slots)) ++ filter (λ i. not (worn (slot_at (swept h marks pins) i))) (filter (λ i. not (has pins i)) h.quarantine)
   unfolding swept drop_unmarked recycle
   swept-free = λ j.
       ((all-joined marks h).free ∙ (λ k. h.free ++ filter (λ i. not (worn (sym (dropped-slot marks h i) k))) (whole k))) j
-      ++ filter (λ i. not (worn (slot_at (all_dropped h marks) i))) (filter (λ i. not (member i pins)) ((all-dropped marks h).quarantine j))
+      ++ filter (λ i. not (worn (slot_at (all_dropped h marks) i))) (filter (λ i. not (has pins i)) ((all-dropped marks h).quarantine j))
 
   pub swept-retired : (swept h marks pins).retired
-      ≡ (h.retired ++ filter (λ i. worn (slot_at (swept h marks pins) i)) (dropped marks 0 h.slots)) ++ filter (λ i. worn (slot_at (swept h marks pins) i)) (filter (λ i. not (member i pins)) h.quarantine)
+      ≡ (h.retired ++ filter (λ i. worn (slot_at (swept h marks pins) i)) (dropped marks 0 h.slots)) ++ filter (λ i. worn (slot_at (swept h marks pins) i)) (filter (λ i. not (has pins i)) h.quarantine)
   unfolding swept drop_unmarked recycle
   swept-retired = λ j.
       ((all-joined marks h).retired ∙ (λ k. h.retired ++ filter (λ i. worn (sym (dropped-slot marks h i) k)) (whole k))) j
-      ++ filter (λ i. worn (slot_at (all_dropped h marks) i)) (filter (λ i. not (member i pins)) ((all-dropped marks h).quarantine j))
+      ++ filter (λ i. worn (slot_at (all_dropped h marks) i)) (filter (λ i. not (has pins i)) ((all-dropped marks h).quarantine j))
 
-pub swept-quarantine : (h : State) (marks pins : List ℕ) → (swept h marks pins).quarantine ≡ filter (λ i. member i pins) h.quarantine
+pub swept-quarantine : (h : State) (marks pins : List ℕ) → (swept h marks pins).quarantine ≡ filter (λ i. has pins i) h.quarantine
 unfolding swept drop_unmarked recycle
-swept-quarantine h marks pins = ap (filter (λ i. member i pins)) (all-dropped marks h).quarantine
+swept-quarantine h marks pins = ap (filter (λ i. has pins i)) (all-dropped marks h).quarantine
 
 pub swept-sealed : (h : State) (marks pins : List ℕ) → (swept h marks pins).sealed ≡ h.sealed
 unfolding swept drop_unmarked recycle
@@ -216,7 +210,7 @@ swept_same h m m' pins e =
 
 -- which pins there are decides what stays, their order does not; of marks, those of live slots do
 
-pub swept-pins : (h : State) (marks a b : List ℕ) → ((i : ℕ) → 0 < times i h.quarantine → member i a ≡ member i b) → swept h marks a ≡ swept h marks b
+pub swept-pins : (h : State) (marks a b : List ℕ) → ((i : ℕ) → 0 < times i h.quarantine → has a i ≡ has b i) → swept h marks a ≡ swept h marks b
 unfolding swept drop_unmarked
 swept-pins h marks a b e =
     recycle-same (drop_unmarked h marks) a b (λ i m. e i (subst (λ (q : List ℕ). 0 < times i q) (all-dropped marks h).quarantine m))

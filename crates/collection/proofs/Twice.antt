@@ -5,16 +5,12 @@ use mathlib.Core.List.{List, [], ◌∷◌, ◌++◌, append-nil, map}
 use mathlib.Core.Logic.{inl, inr, ⊎_elim}
 use mathlib.Core.Option.{Option, none, some}
 use Prim.Native.Nat.{ℕ, ◌+◌, ◌*◌, ◌<◌, max}
-use native.Mathlib.Omega.{arith}
-use lib.ListN.{length, get_or, get_or-map}
-use lib.Dec.{eqb, ltb}
-use borrow.Author.Tests.{ne_eqb, ltb-true, lt-ltb}
-use Rattle.std.specs.Prelude.{if◌then◌else◌}
+use Rattle.std.specs.Prelude.{if◌then◌else◌, filter}
 use Rattle.word.specs.Result.{ok}
-use Rattle.word.specs.Lists.{filter}
+use Rattle.word.specs.Lists.{has}
 use Rattle.ty.specs.Types.{Table}
 use Rattle.heap.specs.State.{Slot, State, no_slot, slot_at, live, worn, with_since, with_live}
-use Rattle.heap.specs.Calls.{Changed, done, resolve, member, recycle}
+use Rattle.heap.specs.Calls.{Changed, done, resolve, recycle}
 use Rattle.flow.specs.Function.{Function}
 use Rattle.trace.specs.Places.{handles_of}
 use Rattle.reach.specs.Reach.{Graph, Starts, First, Reached, UntraceableFrom}
@@ -30,8 +26,13 @@ use Rattle.collection.specs.Demand.{Survived}
 use Rattle.collection.specs.Inner.Collects.{Collects}
 use Rattle.collection.proofs.Answers.{not-both}
 use Rattle.collection.proofs.Dropping.{dropped-none}
-use Rattle.collection.proofs.SweptLaws.{resolved_live, swept-sealed}
+use Rattle.collection.proofs.SweptLaws.{swept-sealed}
 use Rattle.collection.proofs.Demand.{found_ok, demand, collected-by}
+use Rattle.heap.proofs.LiveSlots.{resolved_live}
+use native.Mathlib.Omega.{arith}
+use lib.ListN.{length, get_or, get_or-map}
+use lib.Dec.{eqb, ltb}
+use borrow.Author.Tests.{ne_eqb, ltb-true, lt-ltb}
 
 -- ---- the sweep
 
@@ -62,14 +63,14 @@ unfolding recycle
 recycled-again d pins = λ j. record {
   tag = d.tag;
   since_gc = d.since_gc;
-  reclaim_at = max (2 * length (filter-again (λ i. member i pins) d.quarantine j)) 4096;
+  reclaim_at = max (2 * length (filter-again (λ i. has pins i) d.quarantine j)) 4096;
   live_bytes = d.live_bytes;
   epoch = d.epoch;
   log = d.log;
   slots = d.slots;
-  free = (ap (λ (x : List ℕ). (d.free ++ filter (λ i. not (worn (slot_at d i))) (filter (λ i. not (member i pins)) d.quarantine)) ++ filter (λ i. not (worn (slot_at d i))) x) (filter_none (λ i. member i pins) d.quarantine) ∙ append-nil (d.free ++ filter (λ i. not (worn (slot_at d i))) (filter (λ i. not (member i pins)) d.quarantine))) j;
-  retired = (ap (λ (x : List ℕ). (d.retired ++ filter (λ i. worn (slot_at d i)) (filter (λ i. not (member i pins)) d.quarantine)) ++ filter (λ i. worn (slot_at d i)) x) (filter_none (λ i. member i pins) d.quarantine) ∙ append-nil (d.retired ++ filter (λ i. worn (slot_at d i)) (filter (λ i. not (member i pins)) d.quarantine))) j;
-  quarantine = filter-again (λ i. member i pins) d.quarantine j;
+  free = (ap (λ (x : List ℕ). (d.free ++ filter (λ i. not (worn (slot_at d i))) (filter (λ i. not (has pins i)) d.quarantine)) ++ filter (λ i. not (worn (slot_at d i))) x) (filter_none (λ i. has pins i) d.quarantine) ∙ append-nil (d.free ++ filter (λ i. not (worn (slot_at d i))) (filter (λ i. not (has pins i)) d.quarantine))) j;
+  retired = (ap (λ (x : List ℕ). (d.retired ++ filter (λ i. worn (slot_at d i)) (filter (λ i. not (has pins i)) d.quarantine)) ++ filter (λ i. worn (slot_at d i)) x) (filter_none (λ i. has pins i) d.quarantine) ∙ append-nil (d.retired ++ filter (λ i. worn (slot_at d i)) (filter (λ i. not (has pins i)) d.quarantine))) j;
+  quarantine = filter-again (λ i. has pins i) d.quarantine j;
   sealed = d.sealed;
 }
 
@@ -115,8 +116,8 @@ module _ (H : Slot → Option (List ℕ)) (h : State) (S : Starts) (h' : State) 
     alive-now : (o : ℕ) → Reached G' S o → live (slot_at h' o) ≡ true
     alive-now =
         reached-ind G' S (λ o. live (slot_at h' o) ≡ true)
-        (λ o f. ⊎_elim (λ p. p.1) (λ r. (resolved_live h' r.0 o (found_ok (resolve h' r.0) o r.2)).0) f)
-        (λ p o a n. (resolved_live h' n.2.0 o (found_ok (resolve h' n.2.0) o n.2.2)).0)
+        (λ o f. ⊎_elim (λ p. p.1) (λ r. resolved_live h' r.0 o (found_ok (resolve h' r.0) o r.2)) f)
+        (λ p o a n. resolved_live h' n.2.0 o (found_ok (resolve h' n.2.0) o n.2.2))
 
     backward : (o : ℕ) → Reached G' S o → Reached G S o
     backward o r = (s.alive o).0 (alive-now o r)

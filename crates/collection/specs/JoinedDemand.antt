@@ -9,6 +9,7 @@ use Rattle.addresses.specs.Listed.{Listed}
 use Rattle.reach.specs.Reach.{Starts, UntraceableFrom, ◌∈◌}
 use Rattle.collection.specs.Collected.{graph}
 use Rattle.collection.specs.Shown.{shown}
+use Rattle.collection.specs.Joined.{Pinning}
 
 -- What pins (request [4]): the pins that are given, the list of addresses with their slots, and the addresses of the frame.
 pub record Pinning : Type 0 where
@@ -39,7 +40,7 @@ pub record JoinedStarts (f : Function) (pc : ℕ) (values handles sealed : List 
 pub record UntraceableAt (T : Table) (f : Function) (pc : ℕ) (values handles : List ℕ) (pins : Pinning) (h : State) : Type 0 where
   pub from : Starts
   pub starts : JoinedStarts f pc values handles h.sealed pins from
-  pub stuck : UntraceableFrom (graph h (shown T h)) from
+  pub untraceable : UntraceableFrom (graph h (shown T h)) from
 
 -- the frame map can't be traced, or an object that such a chain leads to; `frame` are the frame's handles, none where the frame map can't be traced
 abbrev pub Untraceable : Table → Function → (pc : ℕ) (values : List ℕ) (frame : Option (List ℕ)) (pins : Pinning) → State → Type 0

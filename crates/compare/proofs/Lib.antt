@@ -1,3 +1,3 @@
 -- What the proofs of several functions use.
-pub mod Turning
-pub mod Going
+pub mod TurnsPut
+pub mod SideBySide

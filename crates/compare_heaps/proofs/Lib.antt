@@ -1,4 +1,4 @@
 -- What the proofs of several functions use.
-pub mod Going
-pub mod Meeting
-pub mod Whole
+pub mod ObjectsInOrder
+pub mod FirstMet
+pub mod OrderFound

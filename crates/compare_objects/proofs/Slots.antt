@@ -1,5 +1,5 @@
 -- The objects of two slots: their columns and data in the runs. Assumes nothing.
-use Prim.Native.Nat.{ℕ, ◌+◌, ◌-◌, ◌*◌, ◌≤◌, ◌<◌}
+use Prim.Native.Nat.{ℕ, ◌+◌, ◌-◌, ◌*◌, ◌<◌}
 use mathlib.Core.Path.{◌≡◌, sym, ap, ◌∙◌}
 use mathlib.Core.Bool.{true, false}
 use mathlib.Core.Option.{none}
@@ -12,14 +12,15 @@ use Rattle.std.specs.declared.cmp.Ordering.TheVariants.{Less, Equal, Greater}
 use Rattle.std.specs.Ordering.{is_ne, nat_cmp}
 use Rattle.std.specs.Cmp.{IsTotalOrder}
 use Rattle.std.proofs.lemmas.Map.Lookups.{exact_unsigned}
-use Rattle.word.specs.Run.{run}
+use Rattle.word.specs.Run.{run, start_of}
 use Rattle.word.proofs.RunLaws.{run-get, first-get}
-use Rattle.heap.specs.Packing.{start_of, data_at}
+use Rattle.heap.specs.Packing.{data_at}
 use Rattle.ty.specs.Types.{Table}
 use Rattle.trace.specs.Places.{shown_places}
 use Rattle.mark.specs.Inner.Graph.{Fit}
+use Rattle.mark.proofs.TracedIntoQueue.{end-at}
 use Rattle.alike.specs.Inner.ByTurns.{◌and_then◌}
-use Rattle.compare.proofs.Going.{first-decides, second-decides, is-equal}
+use Rattle.compare.proofs.SideBySide.{first-decides, second-decides, is-equal}
 use Rattle.compare_objects.specs.declared.head.Head.{Head}
 use Rattle.compare_objects.specs.Inner.Sides.{head_of, head_order, data_beside, places_in, slots_beside}
 
@@ -29,19 +30,13 @@ module _ (slots S : ℕ) (narrow wide pool : List ℕ) (fit : Fit slots S narrow
   pub head-room : (S + i < length narrow) × (2 * S + i < length narrow) × (i < length wide) × (S + i < length wide)
   head-room = (omega (arith, fit.runs.used, fit.types), omega (arith, fit.runs.used, fit.types), omega (arith, fit.runs.used, fit.ends), omega (arith, fit.runs.used, fit.ends))
 
-  end-is : get_or (run S S wide) i 0 ≡ get_or wide (S + i) 0
-  end-is = run-get S S wide i (omega (arith, fit.runs.used))
-
   module _ (a : ℕ) (ea : a ≡ start_of (run S S wide) i) where
-    pub head-rises : a ≤ get_or wide (S + i) 0
-    head-rises = omega (arith, fit.rising i h, end-is)
-
     -- the numbers that are read
     pub head_read : record { kind = get_or narrow (S + i) 0; t = get_or narrow (2 * S + i) 0; start = get_or wide i 0; size = get_or wide (S + i) 0 - a } ≡ head_of S narrow wide i
     unfolding head_of
     head_read =
         let l : i < S = omega (arith, fit.runs.used) in
-        λ j. record { kind = sym (run-get S S narrow i l) j; t = sym (run-get S (2 * S) narrow i l) j; start = sym (first-get S wide i l) j; size = sym end-is j - ea j }
+        λ j. record { kind = sym (run-get S S narrow i l) j; t = sym (run-get S (2 * S) narrow i l) j; start = sym (first-get S wide i l) j; size = sym (end-at slots S narrow wide pool fit i h) j - ea j }
 
   -- it is as long as the numbers say
   pub data-size : length (data_at (run S S wide) pool i) ≡ (head_of S narrow wide i).size

@@ -1,32 +1,27 @@
 -- Every public call on a heap begins with tests: what follows from what they found. Assumes nothing.
-use mathlib.Core.Path.{◌≡◌, refl, sym, ap, ◌∙◌}
+use mathlib.Core.Path.{◌≡◌, refl, sym, ap, ◌∙◌, subst}
 use mathlib.Core.Bool.{Bool, true, false, ◌&&◌}
 use mathlib.Core.List.{List, [], ◌∷◌, ◌++◌, map}
-use Prim.Native.Nat.{ℕ, zero, suc, ◌≤◌, ◌<◌}
-use native.Mathlib.Omega.{arith}
-use lib.ListN.{length, get_or, replicate, length-replicate}
-use lib.Dec.{eqb, leb}
-use borrow.Author.Tests.{le-leb, lt-leb, leb-true}
-use Rattle.std.specs.Prelude.{if◌then◌else◌}
+use Prim.Native.Nat.{ℕ, zero, suc, ◌≤◌}
+use Rattle.std.specs.Prelude.{if◌then◌else◌, Err, Result as Outcomes, Ok, IfOk, MatchResult}
 use Rattle.word.specs.Result.{Result}
 use Rattle.heap.specs.State.{State}
 use Rattle.heap.specs.Lent.{Lent, stored, view, slot_count, pool_size}
 use Rattle.heap.specs.WellFormed.{well_formed}
 use Rattle.heap.specs.Calls.{Changed}
 use Rattle.heap.specs.Inner.Tells.{Tells}
-use Rattle.refusal.specs.Told.{number_of, refused_by, told, answered}
+use Rattle.refusal.specs.Told.{number_of, refused_by, told, answered, Reply}
 use Rattle.refusal.specs.declared.Refusal.{Refusal}
 use Rattle.refusal.specs.declared.Refusal.TheVariants.{BrokenHeap, Scratch}
 use Rattle.refusal.specs.declared.Answer.{Answer}
-use Rattle.refusal.specs.Told.{Reply}
-use Rattle.std.specs.Prelude.{Err}
-use Rattle.door.specs.HeapCalls.{Test, test, admitted, whether, enough, heap_tests, zeros, scratch_after, outcome_of, calling, asked_of, asking}
+use Rattle.door.specs.HeapCalls.{Test, test, admitted, whether, enough, heap_tests, zeros, scratch_after, outcome_of, calling, asked_of, asking, Entry, ready}
 use Rattle.door.specs.Inner.Entered.{Entered, entry_of}
-use Rattle.door.specs.HeapCalls.{Entry}
-use Rattle.std.specs.Prelude.{Result as Outcomes, Ok, IfOk, MatchResult}
 use Rattle.heap.specs.Inner.Seen.{seen, state}
 use Rattle.heap.specs.declared.view.View.{View}
-use Rattle.door.specs.HeapCalls.{ready}
+use native.Mathlib.Omega.{arith}
+use lib.ListN.{length, get_or, replicate, length-replicate}
+use lib.Dec.{eqb, leb}
+use borrow.Author.Tests.{le-leb, leb-true}
 
 -- ---- tests one by one
 
@@ -40,6 +35,10 @@ apart q = let z : ◌≡◌ {A = ℕ} 1 0 = ap code q in absurd (omega arith)
 -- a refusal is one
 pub same-why : {a b : Refusal} → ◌≡◌ {A = Entry} (Err a) (Err b) → a ≡ b
 same-why q = cc
+
+pub none_left : ready ≡ admitted []
+unfolding admitted
+none_left = refl
 
 module _ (b : Bool) (why : Refusal) (ts : List Test) where
   pub fails : b ≡ false → Err why ≡ admitted (test b why ∷ ts)
@@ -55,6 +54,20 @@ pub passed : (b : Bool) (why : Refusal) (ts : List Test) → admitted (test b wh
 unfolding admitted
 passed true why ts e = (refl, e)
 passed false why ts e = apart e
+
+-- the refusal is that of one of the tests: what holds of each of theirs holds of it
+abbrev pub Each : (Refusal → Type 0) → List Test → Type 0
+Each P [] = Unit {0}
+Each P (t ∷ ts) = P t.why × Each P ts
+
+first-why : (P : Refusal → Type 0) (b : Bool) (x why : Refusal) (e : Entry) → P x → (e ≡ Err why → P why) → (if b then e else Err x) ≡ Err why → P why
+first-why P true x why e p k q = k q
+first-why P false x why e p k q = subst P (same-why q) p
+
+pub among : (P : Refusal → Type 0) (ts : List Test) → Each P ts → (why : Refusal) → admitted ts ≡ Err why → P why
+unfolding admitted
+among P [] x why e = apart (sym e)
+among P (t ∷ ts) x why e = first-why P t.holds t.why why (admitted ts) x.0 (λ q. among P ts x.1 why q) e
 
 -- none to come changes a refusal, and the first to come decides where there is none
 by_first : (b : Bool) (e f g : Entry) {why : Refusal} → Err why ≡ (if b then e else g) → (Err why ≡ e → Err why ≡ f) → Err why ≡ (if b then f else g)
@@ -105,20 +118,12 @@ module _ {A : Type 0} (first second : A → ℕ) (scratch : List (List ℕ)) (te
 -- ---- the ways out of `enter`
 
 module _ (m w : List ℕ) (l : Lent) where
-  pub few-marks : length m < slot_count l → enough m w l ≡ false
-  unfolding enough
-  few-marks h = simp (lt-leb (slot_count l) (length m) h)
-
-  pub few_words : slot_count l ≤ length m → length w < slot_count l → enough m w l ≡ false
-  unfolding enough
-  few_words h k = simp (le-leb (slot_count l) (length m) h, lt-leb (slot_count l) (length w) k)
-
   pub is-enough : slot_count l ≤ length m → slot_count l ≤ length w → enough m w l ≡ true
   unfolding enough
   is-enough h k = simp (le-leb (slot_count l) (length m) h, le-leb (slot_count l) (length w) k)
 
   module _ {b : Bool} (v : b ≡ (leb (slot_count l) (length m) && leb (slot_count l) (length w))) where
-    fits-is : b ≡ enough m w l
+    pub fits-is : b ≡ enough m w l
     unfolding enough
     fits-is = v
 

@@ -6,17 +6,19 @@ use mathlib.Core.Path.{◌≡◌, refl, sym, ap, ◌∙◌}
 use native.Mathlib.Omega.{arith}
 use native.Mathlib.Numerals.{add-one}
 use lib.Dec.{ltb}
-use lib.ListN.{length, get_or, take, drop, length-append, length-map, length-replicate, get_or-map, drop_of_length-le}
+use lib.ListN.{length, get_or, take, drop, length-append, length-map, get_or-map, drop_of_length-le}
 use lib.Seq.{drop-cons, take_all}
 use Rattle.std.specs.Prelude.{if◌then◌else◌}
 use Rattle.word.specs.Run.{run}
 use Rattle.word.proofs.RunLaws.{run-get, run_long}
 use Rattle.heap.specs.State.{Slot, no_slot, live, data_of}
-use Rattle.heap.specs.Packing.{pad, flat, ends}
+use Rattle.heap.specs.Packing.{pad, ends}
+use Rattle.std.specs.List.{concat}
 use Rattle.heap.specs.Lent.{Lent, lent, header_of, stored, view}
 use Rattle.heap.specs.WellFormed.{well_formed}
 use Rattle.heap.specs.declared.Heap.{Heap}
-use Rattle.heap.proofs.Packing.{flat-split, flat-suc, end_of}
+use Rattle.heap.proofs.Packing.{concat-split, concat-suc, end_of}
+use Rattle.heap.proofs.Runs.{pad-long}
 use Rattle.heap.proofs.Sound.{WellFormed}
 use Rattle.heap.proofs.Storing.{column-at}
 use Rattle.heap.proofs.Testing.{formed-tested}
@@ -24,10 +26,6 @@ use Rattle.figures.specs.declared.Figures.{Figures}
 use Rattle.figures.specs.Figures.{no_figures, merge, live_sizes, figures_of}
 use Rattle.figures.specs.Inner.Counting.{one, Lies}
 use Rattle.figures.proofs.Totals.{figures-same, merge_none, none-merge}
-
-pad-long : (S : ℕ) (xs : List ℕ) → S ≤ length (pad S xs)
-unfolding pad
-pad-long S xs = simp (length-append, length-replicate) (omega arith)
 
 -- ---- one slot more
 
@@ -58,9 +56,9 @@ bytes-more true f n from h = omega arith
 bytes-more false f n from h = omega arith
 
 -- the data up to slot i and its own are not longer than all
-flat-front : (ds : List (List ℕ)) (i : ℕ) → i < length ds → length (flat (take i ds)) + length (get_or ds i []) ≤ length (flat ds)
+flat-front : (ds : List (List ℕ)) (i : ℕ) → i < length ds → length (concat (take i ds)) + length (get_or ds i []) ≤ length (concat ds)
 flat-front ds i h =
-    omega (arith, ap length (flat-split ds i h), length-append (flat (take i ds)) (get_or ds i [] ++ flat (drop (suc i) ds)), length-append (get_or ds i []) (flat (drop (suc i) ds)))
+    omega (arith, ap length (concat-split ds i h), length-append (concat (take i ds)) (get_or ds i [] ++ concat (drop (suc i) ds)), length-append (get_or ds i []) (concat (drop (suc i) ds)))
 
 none_left : (x : List Slot) → x ≡ [] → figures_of x ≡ no_figures
 unfolding figures_of live_sizes
@@ -71,13 +69,12 @@ none_left x e = ap figures_of e
 -- f counts the first i slots, whose data ends at `from`
 pub record Counted (slots : List Slot) (from i : ℕ) (f : Figures) : Type 0 where
   pub inside : i ≤ length slots
-  pub ends : from ≡ length (flat (take i (data_of slots)))
+  pub ends : from ≡ length (concat (take i (data_of slots)))
   pub objects : f.objects ≤ i
   pub bytes : f.bytes ≤ from
   pub left : merge f (figures_of (drop i slots)) ≡ figures_of slots
 
 pub counted-first : (slots : List Slot) → Counted slots 0 0 no_figures
-unfolding flat
 counted-first slots = record { inside = omega arith; ends = refl; objects = omega arith; bytes = omega arith; left = none-merge (figures_of slots) }
 
 module _ (h : Heap) (narrow wide pool : List ℕ) (l : Lies (lent h narrow wide pool)) where
@@ -103,13 +100,13 @@ module _ (h : Heap) (narrow wide pool : List ℕ) (l : Lies (lent h narrow wide 
   unfolding stored
   kind_at i k = sym (run-get S S narrow i (omega (arith, l.slots))) ∙ ap (λ (x : Lent). get_or x.kind i 0) l.lies ∙ column-at S (λ s. s.kind) slots i k
 
-  end-at : (i : ℕ) → i < length slots → get_or wide (S + i) 0 ≡ length (flat (take i (data_of slots))) + length (get_or slots i no_slot).bytes
+  end-at : (i : ℕ) → i < length slots → get_or wide (S + i) 0 ≡ length (concat (take i (data_of slots))) + length (get_or slots i no_slot).bytes
   unfolding stored
   end-at i k =
       sym (run-get S S wide i (omega (arith, l.slots)))
       ∙ ap (λ (x : Lent). get_or x.end i 0) l.lies
       ∙ end_of S (data_of slots) i (omega (arith, length-map slots (λ (s : Slot). s.bytes)))
-      ∙ ap (λ (b : List ℕ). length (flat (take i (data_of slots))) + length b) (get_or-map (λ (s : Slot). s.bytes) slots i no_slot)
+      ∙ ap (λ (b : List ℕ). length (concat (take i (data_of slots))) + length b) (get_or-map (λ (s : Slot). s.bytes) slots i no_slot)
 
   module _ (from i : ℕ) (f : Figures) (c : Counted slots from i f) (k : i < h.slots) where
     abbrev end : ℕ
@@ -149,8 +146,8 @@ module _ (h : Heap) (narrow wide pool : List ℕ) (l : Lies (lent h narrow wide 
           inside = omega (arith, at);
           ends =
               ended ∙ ap (λ (m : ℕ). m + length s.bytes) c.ends
-              ∙ sym (ap (λ (m : ℕ). length (flat (take m (data_of slots)))) (add-one i) ∙ ap length (flat-suc (data_of slots) i (omega (arith, at, length-map slots (λ (x : Slot). x.bytes))))
-              ∙ length-append (flat (take i (data_of slots))) (get_or (data_of slots) i []) ∙ ap (λ (m : ℕ). length (flat (take i (data_of slots))) + m) d);
+              ∙ sym (ap (λ (m : ℕ). length (concat (take m (data_of slots)))) (add-one i) ∙ ap length (concat-suc (data_of slots) i (omega (arith, at, length-map slots (λ (x : Slot). x.bytes))))
+              ∙ length-append (concat (take i (data_of slots))) (get_or (data_of slots) i []) ∙ ap (λ (m : ℕ). length (concat (take i (data_of slots))) + m) d);
           objects = objects-more (ltb 0 kind) f (end - from) i c.objects;
           bytes = omega (arith, b, starts);
           left =
@@ -165,7 +162,7 @@ module _ (h : Heap) (narrow wide pool : List ℕ) (l : Lies (lent h narrow wide 
   pub counted-all : (from i : ℕ) (f : Figures) → Counted slots from i f → h.slots ≤ i → (f ≡ figures_of slots) × (f.objects ≤ S) × (f.bytes ≤ length pool)
   counted-all from i f c k =
       let e : length slots ≤ i = omega (arith, slots-are) in
-      let z : flat (take i (data_of slots)) ≡ flat (data_of slots) = ap flat (take_all i (data_of slots) (omega (arith, e, length-map slots (λ (x : Slot). x.bytes)))) in (
+      let z : concat (take i (data_of slots)) ≡ concat (data_of slots) = ap concat (take_all i (data_of slots) (omega (arith, e, length-map slots (λ (x : Slot). x.bytes)))) in (
         sym (merge_none f) ∙ ap (merge f) (sym (none_left (drop i slots) (drop_of_length-le slots {i = i} e))) ∙ c.left,
         omega (arith, c.objects, c.inside, l.slots),
         omega (arith, c.bytes, c.ends, ap length z, l.bytes),

@@ -7,13 +7,13 @@ use Prim.Native.Nat.{ℕ, zero, suc, ◌+◌, ◌-◌, ◌≤◌, ◌<◌}
 use native.Mathlib.Omega.{arith}
 use native.Mathlib.Decide.{ℕ_discrete, dec_lt}
 use lib.ListN.{length, get_or}
-use lib.Dec.{ltb, eqb}
-use borrow.Author.Tests.{eqb-true, ltb-true, eq-eqb, ne_eqb, lt-ltb}
-use Rattle.std.specs.Prelude.{if◌then◌else◌}
-use Rattle.word.specs.Lists.{all, filter}
+use lib.Dec.{leb, eqb}
+use borrow.Author.Tests.{eqb-true, leb-true, eq-eqb, ne_eqb}
+use Rattle.std.specs.Prelude.{if◌then◌else◌, filter}
+use Rattle.word.specs.Lists.{has, rising, rising_from}
 use Rattle.word.specs.Ones.{keep, passing}
-use Rattle.flow.specs.Function.{has, some, rising}
-use Rattle.word.proofs.Bools.{or_cases, or_left, or_right, and_both, and-false, both-and}
+use Rattle.std.specs.List.{list_any}
+use Rattle.word.proofs.Bools.{or_cases, or_left, or_right, and_both, and-false}
 
 -- ---- what passes
 
@@ -69,74 +69,61 @@ passing-exactly P n r past = (λ h. (has-passing P 0 n r h).is, λ h. passing-ha
         go (yes l) = omega arith
         go (no l) = absurd (false≢true (sym (past r (omega arith)) ∙ h))
 
-above-passing : (P : ℕ → Bool) (x b n : ℕ) → x < b → all (ltb x) (passing P b n) ≡ true
-unfolding passing all
-above-passing P x b zero h = refl
-above-passing P x b (suc n) h = go (above-passing P x (suc b) n (omega arith)) (P b)
-  where
-    go : all (ltb x) (passing P (suc b) n) ≡ true → (y : Bool) → all (ltb x) (keep y b (passing P (suc b) n)) ≡ true
-    go rec true = both-and _ _ (lt-ltb x b h) rec
-    go rec false = rec
-
-pub passing-rising : (P : ℕ → Bool) (b n : ℕ) → rising (passing P b n) ≡ true
-unfolding passing
-passing-rising P b zero = refl
-passing-rising P b (suc n) = go (passing-rising P (suc b) n) (P b)
-  where
-    go : rising (passing P (suc b) n) ≡ true → (y : Bool) → rising (keep y b (passing P (suc b) n)) ≡ true
-    go rec true = both-and _ _ (above-passing P b (suc b) n (omega arith)) rec
-    go rec false = rec
-
 -- ---- a rising list is known by its members
 
-all-has : (p : ℕ → Bool) (l : List ℕ) (r : ℕ) → all p l ≡ true → has l r ≡ true → p r ≡ true
-unfolding all
-all-has p [] r h k = absurd (false≢true k)
-all-has p (x ∷ l) r h k =
-    ⊎_elim (λ e. ap p (sym (eqb-true x r e)) ∙ (and_both (p x) (all p l) h).0) (λ e. all-has p l r (and_both (p x) (all p l) h).1 e) (or_cases (eqb x r) (has l r) k)
+low-has : (lo : ℕ) (l : List ℕ) (r : ℕ) → rising_from lo l ≡ true → has l r ≡ true → lo ≤ r
+unfolding rising_from
+low-has lo [] r u h = absurd (false≢true h)
+low-has lo (x ∷ l) r u h =
+    let p = and_both (leb lo x) (rising_from (suc x) l) u in
+    ⊎_elim (λ e. omega (arith, leb-true lo x p.0, eqb-true x r e)) (λ e. omega (arith, leb-true lo x p.0, low-has (suc x) l r p.1 e)) (or_cases (eqb x r) (has l r) h)
 
-pub rising-unique : (l k : List ℕ) → rising l ≡ true → rising k ≡ true → ((r : ℕ) → has l r ≡ true → has k r ≡ true) → ((r : ℕ) → has k r ≡ true → has l r ≡ true) → l ≡ k
-rising-unique [] [] u v f g = refl
-rising-unique [] (y ∷ k) u v f g = absurd (false≢true (g y (or_left _ (has k y) (eq-eqb y y refl))))
-rising-unique (x ∷ l) [] u v f g = absurd (false≢true (f x (or_left _ (has l x) (eq-eqb x x refl))))
-rising-unique (x ∷ l) (y ∷ k) u v f g = ap₂ (λ (a : ℕ) (b : List ℕ). a ∷ b) same (rising-unique l k ul.1 vk.1 f' g')
+unique-from : (a b : ℕ) (l k : List ℕ) → rising_from a l ≡ true → rising_from b k ≡ true
+    → ((r : ℕ) → has l r ≡ true → has k r ≡ true) → ((r : ℕ) → has k r ≡ true → has l r ≡ true) → l ≡ k
+unfolding rising_from
+unique-from a b [] [] u v f g = refl
+unique-from a b [] (y ∷ k) u v f g = absurd (false≢true (g y (or_left _ (has k y) (eq-eqb y y refl))))
+unique-from a b (x ∷ l) [] u v f g = absurd (false≢true (f x (or_left _ (has l x) (eq-eqb x x refl))))
+unique-from a b (x ∷ l) (y ∷ k) u v f g = ap₂ (λ (n : ℕ) (t : List ℕ). n ∷ t) same (unique-from (suc x) (suc y) l k ul.1 vk.1 f' g')
   where
-    ul : (all (ltb x) l ≡ true) × (rising l ≡ true)
-    ul = and_both (all (ltb x) l) (rising l) u
+    ul : (leb a x ≡ true) × (rising_from (suc x) l ≡ true)
+    ul = and_both (leb a x) (rising_from (suc x) l) u
 
-    vk : (all (ltb y) k ≡ true) × (rising k ≡ true)
-    vk = and_both (all (ltb y) k) (rising k) v
+    vk : (leb b y ≡ true) × (rising_from (suc y) k ≡ true)
+    vk = and_both (leb b y) (rising_from (suc y) k) v
 
     same : x ≡ y
     same =
         ⊎_elim (λ e. sym (eqb-true y x e))
-        (λ e. ⊎_elim (λ d. eqb-true x y d)
-        (λ d. absurd (let p = ltb-true y x (all-has (ltb y) k x vk.0 e) in let q = ltb-true x y (all-has (ltb x) l y ul.0 d) in omega arith))
+        (λ e. ⊎_elim (λ d. eqb-true x y d) (λ d. absurd (omega (arith, low-has (suc y) k x vk.1 e, low-has (suc x) l y ul.1 d)))
         (or_cases (eqb x y) (has l y) (g y (or_left _ (has k y) (eq-eqb y y refl)))))
         (or_cases (eqb y x) (has k x) (f x (or_left _ (has l x) (eq-eqb x x refl))))
 
     f' : (r : ℕ) → has l r ≡ true → has k r ≡ true
     f' r h =
-        ⊎_elim (λ e. absurd (let p = ltb-true x r (all-has (ltb x) l r ul.0 h) in let d = eqb-true y r e in omega (arith, same))) (λ e. e)
+        ⊎_elim (λ e. absurd (omega (arith, same, eqb-true y r e, low-has (suc x) l r ul.1 h))) (λ e. e)
         (or_cases (eqb y r) (has k r) (f r (or_right (eqb x r) _ h)))
 
     g' : (r : ℕ) → has k r ≡ true → has l r ≡ true
     g' r h =
-        ⊎_elim (λ e. absurd (let p = ltb-true y r (all-has (ltb y) k r vk.0 h) in let d = eqb-true x r e in omega (arith, same))) (λ e. e)
+        ⊎_elim (λ e. absurd (omega (arith, same, eqb-true x r e, low-has (suc y) k r vk.1 h))) (λ e. e)
         (or_cases (eqb x r) (has l r) (g r (or_right (eqb y r) _ h)))
+
+pub rising-unique : (l k : List ℕ) → rising l ≡ true → rising k ≡ true → ((r : ℕ) → has l r ≡ true → has k r ≡ true) → ((r : ℕ) → has k r ≡ true → has l r ≡ true) → l ≡ k
+rising-unique l k u v f g = unique-from 0 0 l k u v f g
 
 -- ---- a test of some entry, by index
 
-pub some_at : {A : Type 0} (p : A → Bool) (l : List A) (d : A) (i : ℕ) → i < length l → p (get_or l i d) ≡ true → some p l ≡ true
+pub some_at : {A : Type 0} (p : A → Bool) (l : List A) (d : A) (i : ℕ) → i < length l → p (get_or l i d) ≡ true → list_any p l ≡ true
 some_at p [] d i k h = absurd (omega arith)
-some_at p (x ∷ l) d zero k h = or_left _ (some p l) h
+some_at p (x ∷ l) d zero k h = or_left _ (list_any p l) h
 some_at p (x ∷ l) d (suc i) k h = or_right (p x) _ (some_at p l d i (omega arith) h)
 
-pub at_some : {A : Type 0} (p : A → Bool) (l : List A) (d : A) → some p l ≡ true → (i : ℕ) × (i < length l) × (p (get_or l i d) ≡ true)
+pub at_some : {A : Type 0} (p : A → Bool) (l : List A) (d : A) → list_any p l ≡ true → (i : ℕ) × (i < length l) × (p (get_or l i d) ≡ true)
 at_some p [] d h = absurd (false≢true h)
 at_some p (x ∷ l) d h =
     ⊎_elim {C = (i : ℕ) × (i < length (x ∷ l)) × (p (get_or (x ∷ l) i d) ≡ true)} (λ e. (0, omega arith, e))
-    (λ e. let (i, k, q) = at_some p l d e in (suc i, omega arith, q)) (or_cases (p x) (some p l) h)
+    (λ e. let (i, k, q) = at_some p l d e in (suc i, omega arith, q)) (or_cases (p x) (list_any p l) h)
 
 -- ---- those of a list that pass
 

@@ -7,7 +7,8 @@ use Prim.Native.Nat.{ℕ, zero, suc, ◌-◌}
 use lib.ListN.{length, get_or}
 use lib.Dec.{ltb}
 use Rattle.std.specs.Prelude.{if◌then◌else◌}
-use Rattle.flow.specs.Function.{Function, Instruction, has, reads, writes, inst, start, end, exits, successors, Next, Walk, ReadFirst, Live}
+use Rattle.flow.specs.Function.{Function, Instruction, reads, writes, inst, start, end, exits, successors, Next, Walk, ReadFirst, Live}
+use Rattle.word.specs.Lists.{has}
 use Rattle.flow.specs.Dataflow.{asked, only, only_all, track}
 use Rattle.word.proofs.Bools.{and_both, both-and}
 use Rattle.flow.proofs.Laws.{Disjoint}

@@ -10,14 +10,16 @@ use lib.ListN.{length, get_or}
 use lib.Dec.{leb, ltb, eqb}
 use borrow.Author.Tests.{not-true, ltb-true, leb-true, lt-ltb, le-ltb, le-leb}
 use Rattle.std.specs.Prelude.{if◌then◌else◌}
-use Rattle.word.specs.Lists.{all}
+use Rattle.word.specs.Lists.{all, has}
 use Rattle.word.specs.Ones.{passing}
-use Rattle.flow.specs.Function.{Function, Block, has, some, inst, block, start, end, holds, safepoint, share, apart, inside, valid, Live, LiveList}
+use Rattle.flow.specs.Function.{Function, Block, inst, block, start, end, holds, safepoint, share, apart, inside, valid, Live, LiveList}
+use Rattle.std.specs.List.{list_any}
 use Rattle.flow.specs.Dataflow.{live_before, holder, live_row, track}
 use Rattle.word.proofs.Bools.{or_cases, and_both, either, both-and}
 use Rattle.word.proofs.ListLaws.{all-at, at_all}
 use Rattle.flow.proofs.Laws.{Disjoint, filled-known}
-use Rattle.flow.proofs.Lists.{passing-exactly, passing-rising, rising-unique, some_at}
+use Rattle.word.proofs.RisingLaws.{passing-rising}
+use Rattle.flow.proofs.Lists.{passing-exactly, rising-unique, some_at}
 use Rattle.flow.proofs.Fixpoint.{computed}
 use Rattle.flow.proofs.Tracking.{live-track, live-known, disjoint-track}
 
@@ -109,20 +111,20 @@ holds_parts p b h = let a = and_both (leb b.start p) (ltb p b.end) h in (leb-tru
 pub parts-holds : (p : ℕ) (b : Block) → b.start ≤ p → p < b.end → holds p b ≡ true
 parts-holds p b i j = both-and _ _ (le-leb b.start p i) (lt-ltb p b.end j)
 
-holder-at : (l : List Block) (p i : ℕ) → some (holds p) l ≡ true → (k : ℕ) × (holder l p i ≡ k + i) × (holds p (get_or l k none) ≡ true)
+holder-at : (l : List Block) (p i : ℕ) → list_any (holds p) l ≡ true → (k : ℕ) × (holder l p i ≡ k + i) × (holds p (get_or l k none) ≡ true)
 holder-at [] p i h = absurd (false≢true h)
 holder-at (b ∷ bs) p i h = go (holder-at bs p (suc i)) (holds p b) refl
   where
-    go : (some (holds p) bs ≡ true → (k : ℕ) × (holder bs p (suc i) ≡ k + suc i) × (holds p (get_or bs k none) ≡ true))
+    go : (list_any (holds p) bs ≡ true → (k : ℕ) × (holder bs p (suc i) ≡ k + suc i) × (holds p (get_or bs k none) ≡ true))
         → (x : Bool) → holds p b ≡ x → (k : ℕ) × (if◌then◌else◌ x i (holder bs p (suc i)) ≡ k + i) × (holds p (get_or (b ∷ bs) k none) ≡ true)
     go rec true e = (0, omega arith, e)
     go rec false e =
-        let (k, q, r) = rec (⊎_elim (λ u. absurd (false≢true (sym e ∙ u))) (λ u. u) (or_cases (holds p b) (some (holds p) bs) h)) in
+        let (k, q, r) = rec (⊎_elim (λ u. absurd (false≢true (sym e ∙ u))) (λ u. u) (or_cases (holds p b) (list_any (holds p) bs) h)) in
         let z : k + suc i ≡ suc k + i = omega arith in (suc k, q ∙ z, r)
 
 -- an instruction that a block holds
 abbrev pub held : Function → ℕ → Bool
-held f p = some (holds p) f.blocks
+held f p = list_any (holds p) f.blocks
 
 pub holder-holds : (f : Function) (p : ℕ) → held f p ≡ true → (start f (holder f.blocks p 0) ≤ p) × (p < end f (holder f.blocks p 0))
 holder-holds f p h =

@@ -1,9 +1,8 @@
 -- The dataflow for one register r: gen and kill of a block, its live-out and live-in from a set X of blocks, and the backward walk inside it. What the
 -- code's inner functions compute, and by which the registers of a joined collection are computed. What is right is `Live` in Function.antt; that the dataflow
 -- gives exactly the live registers is proved in proofs/Fixpoint.antt.
-use Rattle.std.specs.Prelude.{Bool, true, false, not, ◌&&◌, ◌||◌, List, [], ◌∷◌, ◌≡◌, ℕ, suc, ◌-◌, ◌<◌, length, get_or, ltb, if◌then◌else◌}
+use Rattle.std.specs.Prelude.{Bool, true, false, not, ◌&&◌, ◌||◌, List, [], ◌∷◌, ◌≡◌, ℕ, suc, ◌-◌, ◌<◌, length, get_or, ltb, if◌then◌else◌, filter}
 use Rattle.word.specs.Ones.{passing}
-use Rattle.word.specs.Lists.{filter}
 use Rattle.flow.specs.Function.{Function, Instruction, Block, reads, writes, start, end, holds, successors, Live}
 
 -- r before an instruction that reads it (or not) and writes it (or not), from r after it

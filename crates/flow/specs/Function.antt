@@ -1,7 +1,8 @@
 -- A function's code, where control goes, walks, and what it is for a register to be live (01, "Live map", and numbers 15 and 16 of "What the
 -- host is told"). No bit row and no dataflow is named here.
-use Rattle.std.specs.Prelude.{◌≡◌, ◌⊎◌, ◌↔◌, Bool, true, false, not, ◌&&◌, ◌||◌, List, [], ◌∷◌, ℕ, suc, ◌+◌, ◌-◌, ◌≤◌, ◌<◌, min, max, length, get_or, leb, ltb, eqb, if◌then◌else◌}
-use Rattle.word.specs.Lists.{all, filter}
+use Rattle.std.specs.Prelude.{◌≡◌, ◌⊎◌, ◌↔◌, Bool, true, false, not, ◌&&◌, ◌||◌, filter, List, [], ◌∷◌, ℕ, suc, ◌+◌, ◌-◌, ◌≤◌, ◌<◌, min, max, length, get_or, leb, ltb, eqb, if◌then◌else◌}
+use Rattle.std.specs.List.{list_any}
+use Rattle.word.specs.Lists.{all, has, rising}
 use Rattle.word.specs.Ones.{passing}
 
 -- kind: 0 plain, 1 safepoint, 2 branch, 3 conditional, 4 case, 5 return, 6 unreachable; registers written; registers read; target blocks (a case: arms, then default)
@@ -21,16 +22,6 @@ pub record Function : Type 0 where
   pub code : List Instruction
   pub blocks : List Block
   pub classes : List ℕ
-
--- x is one of the list
-abbrev pub has : List ℕ → ℕ → Bool
-has [] x = false
-has (y ∷ ys) x = eqb y x || has ys x
-
--- the test holds of some of the list
-abbrev pub some : {A : Type 0} → (A → Bool) → List A → Bool
-some p [] = false
-some p (x ∷ xs) = p x || some p xs
 
 -- an instruction past the code does nothing; a block past the blocks is empty
 abbrev pub inst : Function → ℕ → Instruction
@@ -114,11 +105,6 @@ pub record Live (f : Function) (p r : ℕ) : Type 0 where
 
 -- ---- the map
 
--- each number is below all that follow it
-abbrev pub rising : List ℕ → Bool
-rising [] = true
-rising (x ∷ xs) = all (ltb x) xs && rising xs
-
 -- l has the registers that are live before instruction p and whose class passes the test, rising
 pub record LiveList (f : Function) (asked : ℕ → Bool) (p : ℕ) (l : List ℕ) : Type 0 where
   pub rises : rising l ≡ true
@@ -130,7 +116,7 @@ holds p b = leb b.start p && ltb p b.end
 
 -- a safepoint inside a block (number 16 otherwise)
 unfoldable pub safepoint : Function → ℕ → Bool
-safepoint f p = eqb (inst f p).kind 1 && some (holds p) f.blocks
+safepoint f p = eqb (inst f p).kind 1 && list_any (holds p) f.blocks
 
 -- all of them, rising
 unfoldable pub safepoints : Function → List ℕ

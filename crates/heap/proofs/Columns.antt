@@ -1,14 +1,15 @@
 -- What stands in the lists of a heap that lies well formed. Assumes nothing.
 use Rattle.std.proofs.Common.{◌≡◌, ℕ, zero, suc, ◌+◌, ◌*◌, ◌/◌, ◌<◌, ◌≤◌, true, List, [], ◌∷◌, length, get_or, take, drop, sym, refl, ap, ◌∙◌, arith, length-append, take_all}
 use lib.ListN.{length-map, get_or-map}
-use Rattle.word.specs.Run.{run}
+use Rattle.word.specs.Run.{run, start_of}
 use Rattle.word.proofs.RunLaws.{run-get, first-get}
-use Rattle.heap.specs.Packing.{pad, flat, ends, start_of}
+use Rattle.heap.specs.Packing.{pad, ends}
+use Rattle.std.specs.List.{concat}
 use Rattle.heap.specs.State.{Slot, State, no_slot, slot_at, data_of, data_size}
 use Rattle.heap.specs.Lent.{Lent, lent, stored, view, slot_count, pool_size}
 use Rattle.heap.specs.WellFormed.{well_formed}
 use Rattle.heap.specs.declared.Heap.{Heap}
-use Rattle.heap.proofs.Packing.{start-of, end_of, flat-split}
+use Rattle.heap.proofs.Packing.{start-of, end_of, concat-split}
 use Rattle.heap.proofs.Sound.{WellFormed}
 use Rattle.heap.proofs.Storing.{column-any}
 use Rattle.heap.proofs.Changing.{Known, known}
@@ -49,7 +50,7 @@ module _ (S P : ℕ) (h : State) (i : ℕ) where
   -- where its data starts and ends in the pool
   pub from_at : i ≤ length h.slots → start_of (stored S P h).end i ≡ data_size (take i h.slots)
   unfolding stored
-  from_at b = start-of S (data_of h.slots) i (omega (arith, data-long)) ∙ ap (λ (x : List (List ℕ)). length (flat x)) (take-data i h.slots)
+  from_at b = start-of S (data_of h.slots) i (omega (arith, data-long)) ∙ ap (λ (x : List (List ℕ)). length (concat x)) (take-data i h.slots)
 
   to_at : i < length h.slots → get_or (stored S P h).end i 0 ≡ start_of (stored S P h).end i + length (slot_at h i).bytes
   unfolding stored
@@ -64,8 +65,8 @@ data-upto slots i b =
     let ds : List (List ℕ) = data_of slots in
     let inside : i < length ds = omega (arith, length-map slots (λ (s : Slot). s.bytes)) in
     let old : get_or ds i [] ≡ (get_or slots i no_slot).bytes = get_or-map (λ (s : Slot). s.bytes) slots i no_slot in
-    let before : length (flat ds) ≡ length (flat (take i ds)) + (length (get_or ds i []) + length (flat (drop (suc i) ds))) = ap length (flat-split ds i inside) ∙ simp length-append in
-    omega (arith, ap length old, ap (λ (x : List (List ℕ)). length (flat x)) (take-data i slots))
+    let before : length (concat ds) ≡ length (concat (take i ds)) + (length (get_or ds i []) + length (concat (drop (suc i) ds))) = ap length (concat-split ds i inside) ∙ simp length-append in
+    omega (arith, ap length old, ap (λ (x : List (List ℕ)). length (concat x)) (take-data i slots))
 
 -- ---- the heap in well formed memory
 

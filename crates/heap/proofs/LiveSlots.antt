@@ -1,4 +1,4 @@
--- The live slots counted: those of the kinds in use that are not 0. Assumes nothing.
+-- The live slots: what a handle resolves to is one, and they are counted, those of the kinds in use that are not 0. Assumes nothing.
 use Rattle.std.proofs.Common.{◌≡◌, ℕ, ◌+◌, ◌-◌, ◌/◌, Bool, true, false, not, List, [], ◌∷◌, length, take, drop, sym, refl, ap, ◌∙◌, arith, eqb, ltb, eq-eqb, ne_eqb, lt-ltb, le-ltb, take-take}
 use mathlib.Core.List.{map}
 use lib.ListN.{length-map}
@@ -6,14 +6,24 @@ use native.Mathlib.Decide.{ℕ_discrete}
 use Rattle.std.specs.Prelude.{cond}
 use Rattle.std.specs.List.{filter}
 use Rattle.word.specs.Run.{run}
-use Rattle.heap.specs.State.{Slot, State, bit}
-use Rattle.heap.specs.Calls.{live_count}
+use Rattle.word.specs.Result.{ok}
+use Rattle.handle.proofs.ResolveLaws.{Resolves, resolve-ok}
+use Rattle.heap.specs.State.{Slot, State, slot_at, live, bit}
+use Rattle.heap.specs.Calls.{resolve, live_count}
 use Rattle.heap.specs.Lent.{lent, view}
 use Rattle.heap.specs.Packing.{pad}
 use Rattle.heap.specs.WellFormed.{well_formed}
 use Rattle.heap.specs.declared.Heap.{Heap}
 use Rattle.heap.proofs.Packing.{take-pad}
 use Rattle.heap.proofs.Columns.{sizes, knows}
+
+-- a handle leads to a live slot, the one that it names
+pub resolved : (h : State) (x i : ℕ) → resolve h x ≡ ok i → Resolves h.tag (length h.slots) (λ j. live (slot_at h j)) (λ j. (slot_at h j).generation) x i
+unfolding resolve
+resolved h x i e = resolve-ok h.tag (length h.slots) (λ j. live (slot_at h j)) (λ j. (slot_at h j).generation) x i e
+
+pub resolved_live : (h : State) (x i : ℕ) → resolve h x ≡ ok i → live (slot_at h i) ≡ true
+resolved_live h x i e = (resolved h x i e).alive
 
 abbrev pub in_use : ℕ → Bool
 in_use k = not (eqb k 0)

@@ -12,9 +12,9 @@ use Rattle.std.specs.Prelude.{Result, Ok, Err, Option, Some, None}
 use Rattle.handle.specs.Handle.{index_of, resolve_by}
 use Rattle.handle.specs.Inner.Columns.{live_in}
 use Rattle.handle.proofs.ResolveLaws.{resolve_same, live-beyond, live-not, live-there}
-use Rattle.word.specs.Run.{run}
+use Rattle.word.specs.Run.{run, start_of}
 use Rattle.word.proofs.RunLaws.{run-get}
-use Rattle.heap.specs.Packing.{start_of, data_at}
+use Rattle.heap.specs.Packing.{data_at}
 use Rattle.heap.specs.State.{Slot, State, no_slot, slot_at, live, data_of, data_size}
 use Rattle.heap.specs.Lent.{Lent, lent, view, header_of, slot_count, pool_size}
 use Rattle.heap.specs.WellFormed.{well_formed}

@@ -2,10 +2,10 @@
 use Rattle.std.proofs.Common.{◌≡◌, ℕ, suc, ◌+◌, ◌<◌, ◌≤◌, Bool, true, false, not, eqb, List, [], ◌∷◌, ◌++◌, length, sym, refl, ap, ◌∙◌, arith, eq-eqb, ne_eqb, eqb-true}
 use native.Mathlib.Decide.{dec_lt, ℕ_discrete}
 use borrow.Author.Tests.{not-true}
-use Rattle.std.specs.Prelude.{if◌then◌else◌}
-use Rattle.word.specs.Lists.{filter}
+use Rattle.std.specs.Prelude.{if◌then◌else◌, filter}
 use Rattle.heap.specs.State.{State, slot_at, worn, last_generation, bit, times, with_quarantine}
-use Rattle.heap.specs.Calls.{member, freed, recycle}
+use Rattle.heap.specs.Calls.{freed, recycle}
+use Rattle.word.specs.Lists.{has}
 use Rattle.heap.proofs.Sound.{Sound}
 use Rattle.heap.proofs.Counting.{all_slots, listed-inside, times-append}
 use Rattle.heap.proofs.Keeping.{sound-change}
@@ -17,14 +17,6 @@ filter-total p (x ∷ xs) = one (p x) (filter-total p xs)
     one : (b : Bool) → length (filter p xs) + length (filter (λ i. not (p i)) xs) ≡ length xs → length (if◌then◌else◌ b (x ∷ filter p xs) (filter p xs)) + length (if◌then◌else◌ (not b) (x ∷ filter (λ i. not (p i)) xs) (filter (λ i. not (p i)) xs)) ≡ suc (length xs)
     one true r = omega arith
     one false r = omega arith
-
-choice-append : (b : Bool) (x : ℕ) (r s : List ℕ) → if◌then◌else◌ b (x ∷ (r ++ s)) (r ++ s) ≡ if◌then◌else◌ b (x ∷ r) r ++ s
-choice-append true x r s = refl
-choice-append false x r s = refl
-
-pub filter-append : (p : ℕ → Bool) (xs ys : List ℕ) → filter p (xs ++ ys) ≡ filter p xs ++ filter p ys
-filter-append p [] ys = refl
-filter-append p (x ∷ xs) ys = ap (λ (l : List ℕ). if◌then◌else◌ (p x) (x ∷ l) l) (filter-append p xs ys) ∙ choice-append (p x) x (filter p xs) (filter p ys)
 
 pub times-filter : (p : ℕ → Bool) (i : ℕ) (xs : List ℕ) → times i (filter p xs) + times i (filter (λ j. not (p j)) xs) ≡ times i xs
 unfolding times
@@ -88,12 +80,12 @@ pub recycle-sound : (S P : ℕ) (st : State) (pins : List ℕ) → Sound S P st 
 unfolding recycle
 recycle-sound S P st pins fine =
     let Q : List ℕ = st.quarantine in
-    let keep : List ℕ = filter (λ i. member i pins) Q in
-    let go : List ℕ = filter (λ i. not (member i pins)) Q in
-    let total : length keep + length go ≡ length Q = filter-total (λ i. member i pins) Q in
+    let keep : List ℕ = filter (λ i. has pins i) Q in
+    let go : List ℕ = filter (λ i. not (has pins i)) Q in
+    let total : length keep + length go ≡ length Q = filter-total (λ i. has pins i) Q in
     let few : length Q ≤ length st.slots = omega (arith, all_slots S P st fine) in
     let most : length keep ≤ 16777216 = omega (arith, fine.slots-fit, fine.slot-range) in
-    let after : Sound S P (freed (with_quarantine st keep) go) = freed-sound S P st keep go fine (λ i. times-filter (λ i. member i pins) i Q) in
+    let after : Sound S P (freed (with_quarantine st keep) go) = freed-sound S P st keep go fine (λ i. times-filter (λ i. has pins i) i Q) in
     record {
       slot-range = after.slot-range;
       pool-range = after.pool-range;

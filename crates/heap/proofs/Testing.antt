@@ -1,12 +1,9 @@
 -- The tests of `WellFormed` pass exactly if what they test holds. Assumes nothing.
 use Rattle.std.proofs.Common.{◌≡◌, ℕ, ◌+◌, ◌%◌, ◌<◌, ◌≤◌, Bool, true, not, ◌&&◌, ◌||◌, eqb, ltb, leb, List, [], ◌∷◌, ◌++◌, length, get_or, sym, refl, ap, ◌∙◌, ⊎_elim, arith, ltb-true, le-ltb, lt-ltb, eq-eqb, ne_eqb, eqb-true, le-leb, leb-true}
-use native.Mathlib.Decide.{dec_lt, ℕ_discrete}
-use lib.ListN.{get_or-eq_default}
 use Rattle.word.specs.Lists.{all, all_below}
 use Rattle.word.specs.Same.{same_list}
 use Rattle.word.proofs.Bools.{and_both, both-and, or_cases, or_left, or_right}
 use Rattle.word.proofs.ListLaws.{all-at, at_all, below_at, at-below, same-tested, same_test}
-use Rattle.heap.specs.Packing.{flat}
 use Rattle.heap.specs.State.{Slot, State, no_slot, slot_at, data_of, live, last_generation, worn, bit, times}
 use Rattle.heap.specs.Lent.{Lent, columns, stored, view, slot_count, pool_size}
 use Rattle.heap.specs.WellFormed.{sound_slot, places, partitioned, retired_rightly, sound_seals, sound_reclaim, sound, fits, well_formed}
@@ -15,12 +12,12 @@ use Rattle.heap.specs.declared.Heap.{Heap}
 use Rattle.heap.proofs.Sound.{SlotSound, Sound, WellFormed, live_bit}
 use Rattle.heap.proofs.Counting.{times-append, times-member}
 use Rattle.heap.proofs.Storing.{well-stored}
+use Rattle.std.proofs.lemmas.List.{nil_from_length}
+use Rattle.std.specs.List.{concat}
+use native.Mathlib.Decide.{dec_lt, ℕ_discrete}
+use lib.ListN.{get_or-eq_default}
 
 -- ---- a slot
-
-no_bytes : (xs : List ℕ) → length xs ≡ 0 → xs ≡ []
-no_bytes [] h = refl
-no_bytes (x ∷ xs) h = absurd (omega arith)
 
 pub slot-tested : (s : Slot) → sound_slot s ≡ true → SlotSound s
 unfolding sound_slot
@@ -43,7 +40,7 @@ slot-tested s h =
         let b = and_both (eqb s.start 0) _ a.0 in
         let st : s.start ≡ 0 = eqb-true _ _ b.0 in
         let w : s.writes ≡ 0 = eqb-true _ _ b.1 in
-        let d : s.bytes ≡ [] = no_bytes s.bytes (eqb-true _ _ a.1) in
+        let d : s.bytes ≡ [] = nil_from_length s.bytes (eqb-true _ _ a.1) in
         λ j. record { generation = s.generation; kind = z j; type = t j; start = st j; writes = w j; bytes = d j }
 
 pub slot-tests : (s : Slot) → SlotSound s → sound_slot s ≡ true
@@ -206,7 +203,7 @@ lent-test a = simp (same_number, same_test)
 pub sound-tested : (S P : ℕ) (h : State) → fits S P h ≡ true → sound h ≡ true → Sound S P h
 unfolding fits sound sound_reclaim retired_rightly
 sound-tested S P h f t =
-    let f₁ = and_both (leb 1 S && leb S 16777216 && leb P 1073741824 && leb (length h.slots) S) (leb (length (flat (data_of h.slots))) P) f in
+    let f₁ = and_both (leb 1 S && leb S 16777216 && leb P 1073741824 && leb (length h.slots) S) (leb (length (concat (data_of h.slots))) P) f in
     let f₂ = and_both (leb 1 S && leb S 16777216 && leb P 1073741824) (leb (length h.slots) S) f₁.0 in
     let f₃ = and_both (leb 1 S && leb S 16777216) (leb P 1073741824) f₂.0 in
     let f₄ = and_both (leb 1 S) (leb S 16777216) f₃.0 in
@@ -223,7 +220,7 @@ sound-tested S P h f t =
       slot-range = (leb-true 1 S f₄.0, leb-true S 16777216 f₄.1);
       pool-range = leb-true P 1073741824 f₃.1;
       slots-fit = leb-true (length h.slots) S f₂.1;
-      data-fit = leb-true (length (flat (data_of h.slots))) P f₁.1;
+      data-fit = leb-true (length (concat (data_of h.slots))) P f₁.1;
       partition = part;
       young = λ i m. not-worn (slot_at h i) (each i (placed-inside h part i (omega arith))) (all-times (λ i. not (worn (slot_at h i))) h.free i ages.0 m);
       spent = λ i m. eqb-true (slot_at h i).generation last_generation (all-times (λ i. worn (slot_at h i)) h.retired i ages.1 m);
@@ -241,7 +238,7 @@ sound-test S P h s =
       le-leb S 16777216 s.slot-range.1,
       le-leb P 1073741824 s.pool-range,
       le-leb (length h.slots) S s.slots-fit,
-      le-leb (length (flat (data_of h.slots))) P s.data-fit,
+      le-leb (length (concat (data_of h.slots))) P s.data-fit,
       at_all sound_slot h.slots no_slot (λ i k. slot-tests (slot_at h i) (s.each-slot i k)),
       parts-test h s.partition,
       times-all (λ i. not (worn (slot_at h i))) h.free (λ i m. ap not (ne_eqb (slot_at h i).generation last_generation (λ e. omega (arith, s.young i m)))),

@@ -2,7 +2,8 @@
 use Rattle.std.specs.Prelude.{ℕ, ◌*◌, ◌/◌, List, [], ◌++◌, map, length, take, drop, slice_index}
 use Rattle.word.specs.Run.{run}
 use Rattle.word.specs.Lists.{tabulate}
-use Rattle.heap.specs.Packing.{pad, flat, ends, data_at}
+use Rattle.heap.specs.Packing.{pad, ends, data_at}
+use Rattle.std.specs.List.{concat}
 use Rattle.heap.specs.State.{Slot, State, data_of}
 use Rattle.heap.specs.declared.Heap.{Heap}
 
@@ -86,7 +87,7 @@ stored S P h =
       start = column S (λ s. s.start) h.slots;
       end = pad S (ends 0 (data_of h.slots));
       writes = column S (λ s. s.writes) h.slots;
-      pool = pad P (flat (data_of h.slots));
+      pool = pad P (concat (data_of h.slots));
       free = pad S h.free;
       quarantine = pad S h.quarantine;
       sealed = pad S h.sealed;

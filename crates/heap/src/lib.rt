@@ -6,8 +6,7 @@ pub mod view;
 pub mod view_mut;
 
 ghost use Rattle.std.specs.Prelude.{◌≡◌, ◌*◌, ◌≤◌, length};
-ghost use Rattle.word.specs.Run.{run};
-ghost use Rattle.heap.specs.Packing.{start_of};
+ghost use Rattle.word.specs.Run.{run, start_of};
 ghost use Rattle.heap.specs.Calls.{new as new_heap, gc_due, reclaim_due, has_quarantine, is_plain};
 ghost use Rattle.heap.specs.Inner.Asked.{OfHeader};
 ghost use Rattle.heap.specs.Lent.{header_of, lent};

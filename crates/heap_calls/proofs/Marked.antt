@@ -3,15 +3,16 @@ use mathlib.Core.Path.{◌≡◌, refl, sym, ap, ◌∙◌}
 use mathlib.Core.Bool.{Bool, true, false, not}
 use mathlib.Core.List.{List}
 use Prim.Native.Nat.{ℕ, zero, suc, ◌+◌, ◌≤◌, ◌<◌}
+use Rattle.word.specs.Ones.{keep, passing}
+use Rattle.heap.specs.State.{bit, times}
+use Rattle.heap_calls.specs.Inner.Marks.{marked_slots}
+use Rattle.word.specs.Lists.{has}
+use Rattle.heap.proofs.Counting.{bit-positive, has-times}
 use native.Mathlib.Omega.{arith}
 use native.Mathlib.Decide.{ℕ_discrete}
 use lib.ListN.{length, get_or}
 use lib.Dec.{eqb, ltb}
 use borrow.Author.Tests.{eq-eqb, ne_eqb, le-ltb}
-use Rattle.word.specs.Ones.{keep, passing}
-use Rattle.heap.specs.State.{bit, times}
-use Rattle.heap.specs.Calls.{member}
-use Rattle.heap_calls.specs.Inner.Marks.{marked_slots}
 
 -- x is passed once if it lies in the range and passes, else never
 
@@ -44,18 +45,14 @@ times-in p b (suc n) x h l =
       | no ne ↦ one-low (p b) b x (passing p (suc b) n) ne ∙ times-in p (suc b) n x (omega arith) (omega arith)
     ]
 
-pub bit-positive : (t : Bool) → ltb 0 (bit t) ≡ t
-bit-positive true = refl
-bit-positive false = refl
-
 -- ---- one slot
 
 module _ (x : ℕ) (marks : List ℕ) where
-  pub mark-beyond : length marks ≤ x → false ≡ member x (marked_slots marks)
+  pub mark-beyond : length marks ≤ x → false ≡ has (marked_slots marks) x
   unfolding marked_slots
-  mark-beyond h = sym (le-ltb 0 (times x (passing (λ i. not (eqb (get_or marks i 0) 0)) 0 (length marks))) (omega (arith, times-high (λ i. not (eqb (get_or marks i 0) 0)) 0 (length marks) x (omega arith))))
+  mark-beyond h = sym (has-times (marked_slots marks) x ∙ le-ltb 0 (times x (passing (λ i. not (eqb (get_or marks i 0) 0)) 0 (length marks))) (omega (arith, times-high (λ i. not (eqb (get_or marks i 0) 0)) 0 (length marks) x (omega arith))))
 
-  pub mark-there : x < length marks → not (eqb (get_or marks x 0) 0) ≡ member x (marked_slots marks)
+  pub mark-there : x < length marks → not (eqb (get_or marks x 0) 0) ≡ has (marked_slots marks) x
   unfolding marked_slots
   mark-there h =
-      sym (ap (ltb 0) (times-in (λ i. not (eqb (get_or marks i 0) 0)) 0 (length marks) x (omega arith) (omega arith)) ∙ bit-positive (not (eqb (get_or marks x 0) 0)))
+      sym (has-times (marked_slots marks) x ∙ ap (ltb 0) (times-in (λ i. not (eqb (get_or marks i 0) 0)) 0 (length marks) x (omega arith) (omega arith)) ∙ bit-positive (not (eqb (get_or marks x 0) 0)))

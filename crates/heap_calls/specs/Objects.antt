@@ -5,11 +5,11 @@ use Rattle.word.specs.Result.{Result, ok, refused}
 use Rattle.heap.specs.Calls.{Object}
 
 -- the numbers of an object whose bytes are in the output: its length and its start
-abbrev pub size_of : Object → ℕ
-size_of o = length o.bytes
+abbrev pub object_size : Object → ℕ
+object_size o = length o.bytes
 
-abbrev pub start_of : Object → ℕ
-start_of o = o.start
+abbrev pub object_start : Object → ℕ
+object_start o = o.start
 
 -- the output with the object's bytes first; a refusal writes nothing
 abbrev pub handed_out : List ℕ → Result Object → List ℕ

@@ -1,8 +1,7 @@
 // The slots that stay in quarantine when it is recycled: those that a host holds on to, or those that a collection marked.
 ghost use Rattle.std.specs.Prelude.{◌≡◌, true, ℕ, List};
-ghost use Rattle.heap.specs.Calls.{member};
-ghost use Rattle.heap_calls.specs.Pins.{rising};
 ghost use Rattle.heap_calls.specs.Inner.Marks.{marked_slots};
+ghost use Rattle.word.specs.Lists.{has, rising};
 
 // What says of each slot whether it is pinned.
 pub trait Pinned: Copy {
@@ -10,7 +9,7 @@ pub trait Pinned: Copy {
 
     // Is `x` among them?
     fn hold(self, x: u32) -> bool
-        ensures { result ≡ member x (slots self) };
+        ensures { result ≡ has (slots self) x };
 }
 
 // Pins, which rise strictly.

@@ -9,12 +9,13 @@ use lib.Seq.{take_at, drop-append-add, drop-append-le}
 use lib.Dec.{leb}
 use borrow.Author.Tests.{leb-true}
 use Rattle.word.specs.Result.{Result, ok, refused}
-use Rattle.heap.specs.Packing.{pad, flat}
+use Rattle.heap.specs.Packing.{pad}
+use Rattle.std.specs.List.{concat}
 use Rattle.heap.specs.State.{Slot, State, no_slot, slot_at, data_of, data_size, live}
 use Rattle.heap.specs.Lent.{Lent, stored, view, slot_count, pool_size}
 use Rattle.heap.specs.WellFormed.{well_formed}
 use Rattle.heap.specs.Calls.{Place, visible_at, place_at}
-use Rattle.heap.proofs.Packing.{flat-split, start-of}
+use Rattle.heap.proofs.Packing.{concat-split, start-of}
 use Rattle.heap.proofs.Testing.{formed-tested}
 use Rattle.refusal.specs.Told.{number_of, refused_by, answered}
 use Rattle.refusal.specs.Told.{Reply}
@@ -49,14 +50,14 @@ module _ (S P : ℕ) (h : State) (i : ℕ) where
   unfolding stored pad
   in-pool s inside fits =
       let ds : List (List ℕ) = data_of h.slots in
-      let z : List ℕ = replicate (P - length (flat ds)) 0 in
+      let z : List ℕ = replicate (P - length (concat ds)) 0 in
       let long : length ds ≡ length h.slots = length-map h.slots (λ (s : Slot). s.bytes) in
       let here : get_or ds i [] ≡ (slot_at h i).bytes = get_or-map (λ (s : Slot). s.bytes) h.slots i no_slot in
-      let from : data_size (take i h.slots) ≡ length (flat (take i ds)) = sym (from_at S P h i (omega arith)) ∙ start-of S ds i (omega arith) in
-      let lies : flat ds ++ z ≡ flat (take i ds) ++ (get_or ds i [] ++ (flat (drop (suc i) ds) ++ z)) = ap (λ (l : List ℕ). l ++ z) (flat-split ds i (omega arith)) ∙ simp append_assoc in
+      let from : data_size (take i h.slots) ≡ length (concat (take i ds)) = sym (from_at S P h i (omega arith)) ∙ start-of S ds i (omega arith) in
+      let lies : concat ds ++ z ≡ concat (take i ds) ++ (get_or ds i [] ++ (concat (drop (suc i) ds) ++ z)) = ap (λ (l : List ℕ). l ++ z) (concat-split ds i (omega arith)) ∙ simp append_assoc in
       ap (λ (l : List ℕ). take (length (slot_at h i).bytes - s) (drop (data_size (take i h.slots) + s) l))
-      (lies ∙ ap (λ (d : List ℕ). flat (take i ds) ++ (d ++ (flat (drop (suc i) ds) ++ z))) here)
-      ∙ part (flat (take i ds)) (slot_at h i).bytes (flat (drop (suc i) ds) ++ z) (data_size (take i h.slots)) s from fits
+      (lies ∙ ap (λ (d : List ℕ). concat (take i ds) ++ (d ++ (concat (drop (suc i) ds) ++ z))) here)
+      ∙ part (concat (take i ds)) (slot_at h i).bytes (concat (drop (suc i) ds) ++ z) (data_size (take i h.slots)) s from fits
 
   -- what is visible of a heap that lies in memory is what lies at its place
   pub visible-stored : visible_at h i ≡ bytes_in (stored S P h).pool (place_at h i)

@@ -20,8 +20,9 @@ use Rattle.heap.proofs.Telling.{tells_is, tells-not}
 use Rattle.heap.proofs.Runs.{with-header}
 use Rattle.heap.proofs.Columns.{formed, knows, Reads, reads}
 use Rattle.heap_edit.proofs.Cases.{edit-unresolved, edit-full, edit-done}
-use Rattle.heap_edit.proofs.Soundness.{resolved_live, edit-sound}
+use Rattle.heap_edit.proofs.Soundness.{edit-sound}
 use Rattle.heap_edit.proofs.Replacing.{can-splice}
+use Rattle.heap.proofs.LiveSlots.{resolved_live}
 
 -- a slot placed with one write more
 pub placed-raised : {l l' : Lent} {i g k t s w w' : ℕ} {bytes : List ℕ} → PlacedIn l l' i g k t s w bytes → w ≡ w' → PlacedIn l l' i g k t s w' bytes

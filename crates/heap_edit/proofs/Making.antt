@@ -2,7 +2,7 @@
 use Rattle.std.proofs.Common.{◌≡◌, ℕ, zero, suc, ◌+◌, ◌-◌, ◌*◌, ◌/◌, ◌≤◌, List, [], ◌∷◌, ◌++◌, length, take, drop, replicate, refl, ap, ◌∙◌, arith}
 use lib.ListN.{length-replicate}
 use Rattle.word.specs.Run.{run}
-use Rattle.heap.specs.Packing.{pad, flat, ends}
+use Rattle.heap.specs.Packing.{pad, ends}
 use Rattle.heap.specs.Lent.{columns, cut, lent, stored, header_of}
 use Rattle.heap.specs.Calls.{new}
 use Rattle.heap.specs.declared.Heap.{Heap}
@@ -30,7 +30,7 @@ no_more k n b = let z : n - k ≡ 0 = omega arith in drop-replicate k n 0 ∙ ap
 pub new-lies : (tag : ℕ) (hd : Heap) (narrow wide pool narrow' wide' pool' : List ℕ) → length narrow ≡ 6 * (length narrow / 6) → length wide ≡ 4 * (length narrow / 6) → hd ≡ header_of (new tag)
     → narrow' ≡ replicate (length narrow) 0 → wide' ≡ replicate (length wide) 0 → pool' ≡ replicate (length pool) 0
     → lent hd narrow' wide' pool' ≡ stored (length narrow / 6) (length pool) (new tag)
-unfolding stored new flat ends
+unfolding stored new ends
 new-lies tag hd narrow wide pool narrow' wide' pool' six four eh en ew ep =
     let S : ℕ = length narrow / 6 in
     let N : List ℕ = replicate (length narrow) 0 in

@@ -8,10 +8,10 @@ use Rattle.word.specs.Result.{Result, ok, refused}
 use Rattle.word.proofs.PutLaws.{length-put}
 use Rattle.handle.specs.Handle.{packed, index_of}
 use Rattle.handle.proofs.HandleLaws.{tag-packed, index-packed, generation-packed}
-use Rattle.handle.proofs.ResolveLaws.{resolve-ok}
 use Rattle.heap.specs.State.{Slot, State, no_slot, slot_at, live, last_generation, data_size, with_sealed}
 use Rattle.heap.specs.WellFormed.{sound_seals}
 use Rattle.heap.specs.Calls.{Changed, with_slot, rewritten, reissued, resolve, edit, write, reissue, seal, live_handles}
+use Rattle.heap.proofs.LiveSlots.{resolved_live}
 use Rattle.heap.proofs.Sound.{SlotSound, Sound}
 use Rattle.heap.proofs.Seals.{seals-join}
 use Rattle.heap.proofs.Keeping.{live_inside, slot-sound, since-sound, epoch-sound, step-aged, step-most}
@@ -43,11 +43,6 @@ module _ (S P : ℕ) (h : State) (k : Sound S P h) (i : ℕ) (alive : live (slot
       (omega (arith, data-upto h.slots i b))
 
 -- ---- the calls
-
--- a handle leads to a live slot
-pub resolved_live : (h : State) (x i : ℕ) → resolve h x ≡ ok i → live (slot_at h i) ≡ true
-unfolding resolve
-resolved_live h x i e = (resolve-ok h.tag (length h.slots) (λ i. live (slot_at h i)) (λ i. (slot_at h i).generation) x i e).alive
 
 -- a change that is one of these is sound
 keeps : {A : Type 0} (S P : ℕ) (a b : Changed A) → a ≡ b → Sound S P b.heap → Sound S P a.heap

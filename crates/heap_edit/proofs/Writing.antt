@@ -1,6 +1,5 @@
 -- `write` by its ways out. Assumes nothing.
 use Rattle.std.proofs.Common.{◌≡◌, ℕ, ◌+◌, ◌-◌, ◌*◌, ◌/◌, ◌%◌, ◌^◌, ◌<◌, ◌≤◌, true, false, List, length, get_or, take, set, sym, refl, ap, ◌∙◌, subst, ⊎_elim, arith, le-ltb, lt-ltb}
-use native.Mathlib.Decide.{dec_lt}
 use Rattle.word.specs.Put.{put}
 use Rattle.word.specs.Result.{Result, ok, refused}
 use Rattle.word.proofs.Bools.{either}
@@ -9,7 +8,6 @@ use Rattle.refusal.specs.Told.{nothing}
 use Rattle.refusal.specs.declared.Refusal.TheVariants.{NothingThere}
 use Rattle.std.specs.Prelude.{Result as Outcome, Ok, Err, Option, Some, None}
 use Rattle.refusal.specs.declared.Refusal.{Refusal}
-use Rattle.heap.specs.Packing.{start_of}
 use Rattle.heap.specs.State.{State, slot_at, live, data_size}
 use Rattle.heap.specs.Lent.{Lent, lent, columns, stored, view, slot_count, pool_size}
 use Rattle.heap.specs.WellFormed.{well_formed}
@@ -24,6 +22,8 @@ use Rattle.heap.proofs.Columns.{formed, knows, generation-is, kind-is, type-is, 
 use Rattle.heap_edit.proofs.Cases.{write-dead, write-hidden, write-beyond, write_done}
 use Rattle.heap_edit.proofs.Soundness.{write-sound}
 use Rattle.heap_edit.proofs.Replacing.{stays, SlotData, slot-lies, same-data, written-data}
+use Rattle.word.specs.Run.{start_of}
+use native.Mathlib.Decide.{dec_lt}
 
 -- ---- what is seen, and what it means
 seen_no : (h : State) (i : ℕ) → live (slot_at h i) ≡ false → seen_at h i ≡ Err NothingThere

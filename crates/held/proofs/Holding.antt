@@ -3,19 +3,18 @@ use mathlib.Core.Path.{◌≡◌, sym, ap, subst, ◌∙◌}
 use mathlib.Core.Bool.{true}
 use mathlib.Core.List.{List}
 use Prim.Native.Nat.{ℕ}
-use lib.ListN.{length}
-use Rattle.refusal.specs.Told.{told}
+use Rattle.refusal.specs.Told.{told, Reply}
 use Rattle.refusal.specs.declared.Answer.{Answer}
-use Rattle.refusal.specs.Told.{Reply}
 use Rattle.heap.specs.State.{State}
 use Rattle.heap.specs.Lent.{Lent, columns, view}
 use Rattle.heap.specs.WellFormed.{well_formed}
 use Rattle.heap.specs.Calls.{Changed, take_into}
 use Rattle.heap.specs.Inner.Tells.{Tells}
 use Rattle.heap.specs.declared.Heap.{Heap}
-use Rattle.heap_calls.specs.Objects.{size_of, start_of, handed_out}
+use Rattle.heap_calls.specs.Objects.{handed_out, object_start, object_size}
 use Rattle.heap_calls.specs.Inner.Takes.{TakeDoes}
 use Rattle.held.specs.Held.{Held}
+use lib.ListN.{length}
 
 -- the same memory with this header
 abbrev pub headed : Heap → Lent → Lent
@@ -39,8 +38,8 @@ module _ {h g h' g' : Heap} {k l k' l' : Lent} where
 
   pub holds-take : (x : ℕ) (out : List ℕ) {out' : List ℕ} {y : Reply} {r : Answer} → TakeDoes k k' y x out out' → r ≡ told y
       → h ≡ g → h' ≡ g' → headed h k ≡ k → headed g k ≡ l → headed h' k' ≡ k' → headed g' k' ≡ l'
-      → Held size_of start_of l l' r (λ s. take_into (length out) s x) × (out' ≡ handed_out out (take_into (length out) (view l) x).answer)
+      → Held object_size object_start l l' r (λ s. take_into (length out) s x) × (out' ≡ handed_out out (take_into (length out) (view l) x).answer)
   holds-take x out {out'} {r = r} d e =
       moved
-      (λ u v. Held size_of start_of u v r (λ s. take_into (length out) s x) × (out' ≡ handed_out out (take_into (length out) (view u) x).answer))
+      (λ u v. Held object_size object_start u v r (λ s. take_into (length out) s x) × (out' ≡ handed_out out (take_into (length out) (view u) x).answer))
       (record { leaves = d.leaves; says = e ∙ d.says }, d.wrote)

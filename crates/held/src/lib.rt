@@ -8,7 +8,7 @@ ghost use Rattle.heap.specs.Lent.{lent, view};
 ghost use Rattle.heap.specs.Inner.Seen.{seen};
 ghost use Rattle.heap.specs.WellFormed.{well_formed};
 ghost use Rattle.heap.specs.Calls.{take_into};
-ghost use Rattle.heap_calls.specs.Objects.{size_of, start_of, handed_out};
+ghost use Rattle.heap_calls.specs.Objects.{handed_out, object_start, object_size};
 ghost use Rattle.object_door.specs.ObjectCalls.{allocating, recycling};
 ghost use Rattle.held.specs.Held.{head_in, in_place, Held};
 
@@ -133,7 +133,7 @@ pub fn yexwalu_held_take(
     out: &mut [u8],
 ) -> Answer
     requires { well_formed (in_place tag.old numbers.old log.old lengths.old narrow.old wide.old pool.old) ≡ true }
-    ensures held { Held size_of start_of
+    ensures held { Held object_size object_start
         (in_place tag.old numbers.old log.old lengths.old narrow.old wide.old pool.old)
         (in_place tag.new numbers.new log.new lengths.new narrow.new wide.new pool.new) result
         (λ h. take_into (length out.old) h handle) }

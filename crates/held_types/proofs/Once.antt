@@ -8,21 +8,14 @@ use lib.Dec.{leb}
 use lib.ListN.{length}
 use Rattle.std.specs.Prelude.{Ok, Err}
 use Rattle.word.specs.Result.{Result, ok, refused}
-use Rattle.refusal.specs.Told.{Reply, number_of, refused_by}
-use Rattle.refusal.specs.declared.Refusal.{Refusal}
-use Rattle.refusal.proofs.Numbers.{told-once}
+use Rattle.refusal.specs.Told.{number_of}
+use Rattle.refusal.proofs.Numbers.{never-0}
 use Rattle.ty.specs.Types.{type_at}
 use Rattle.layout.specs.Layout.{Lay, layout_of}
 use Rattle.layout.specs.Offsets.{Values, fields_of, listed_in, layout_call}
 use Rattle.held_types.specs.Laid.{laid}
 use Rattle.held_types.specs.declared.Laying.{Laying}
 use Rattle.held_types.specs.Once.{LayoutNumbered, LaidZero, LaidOnce}
-
--- no refusal has the number of success, whose numbers would be those of two zeros
-never-0 : (why : Refusal) → number_of why ≢ 0
-never-0 why e =
-    let same : ◌≡◌ {A = Reply} (Err why) (Ok (0, 0)) = told-once (Err why) (Ok (0, 0)) (ap refused_by e) in
-    let z : ◌≡◌ {A = ℕ} 0 1 = cc in omega (arith, z)
 
 listed-numbered : (l : Lay) (k places : ℕ) → listed_in l k places ≢ refused 0
 listed-numbered (Err why) k places e = never-0 why (let z : number_of why ≡ 0 = cc in z)

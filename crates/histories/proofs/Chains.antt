@@ -5,9 +5,6 @@ use mathlib.Core.Logic.{◌⊎◌, inl, inr}
 use mathlib.Core.List.{List}
 use mathlib.Core.Option.{Option, none, some}
 use Prim.Native.Nat.{ℕ, ◌+◌, ◌≤◌}
-use native.Mathlib.Omega.{arith}
-use native.Mathlib.Decide.{dec_lt}
-use lib.ListN.{length}
 use Rattle.word.specs.Ones.{passing}
 use Rattle.word.proofs.Bools.{either, and_both, both-and, true-false}
 use Rattle.ty.specs.Types.{Table}
@@ -26,8 +23,13 @@ use Rattle.collection.specs.Demand.{Survived}
 use Rattle.collection.proofs.Dropping.{swept_slot, goes-live}
 use Rattle.collection.proofs.SweptLaws.{swept-slot, swept-count, swept-tag}
 use Rattle.histories.specs.History.{Unreached}
-use Rattle.histories.proofs.Lists.{pick, live-sum, times-in, in-times, rising-once, passing-rises, passing-in, in-passing}
+use Rattle.histories.proofs.Lists.{pick, live-sum, rising-once, passing-in, in-passing}
 use Rattle.histories.proofs.Stepping.{age}
+use Rattle.word.proofs.RisingLaws.{passing-rises}
+use Rattle.collection.proofs.Pinned.{times-in, in-times}
+use native.Mathlib.Omega.{arith}
+use native.Mathlib.Decide.{dec_lt}
+use lib.ListN.{length}
 
 -- ---- slots
 

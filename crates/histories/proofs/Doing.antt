@@ -4,11 +4,10 @@ use mathlib.Core.Bool.{true}
 use mathlib.Core.List.{List, [], ◌∷◌, ◌++◌, map}
 use mathlib.Core.Option.{Option, none, some}
 use Prim.Native.Nat.{ℕ}
-use lib.ListN.{length}
 use Rattle.word.specs.Result.{Result, ok, refused}
 use Rattle.refusal.specs.Told.{number_of, refused_by, answered, here, nothing}
 use Rattle.refusal.specs.declared.Refusal.{Refusal}
-use Rattle.refusal.specs.declared.Answer.{Answer as Numbers}
+use Rattle.refusal.specs.declared.Answer.{Answer}
 use Rattle.heap.specs.State.{State}
 use Rattle.heap.specs.Lent.{Lent, stored, view, slot_count, pool_size}
 use Rattle.heap.specs.WellFormed.{well_formed}
@@ -16,14 +15,12 @@ use Rattle.heap.specs.Calls.{Changed, edit as edited, write as written, reissue 
 use Rattle.heap.proofs.Sound.{Sound}
 use Rattle.heap.proofs.Storing.{well-stored}
 use Rattle.heap.proofs.Testing.{formed-tested, formed-test}
-use Rattle.heap_calls.specs.Objects.{size_of, start_of}
+use Rattle.heap_calls.specs.Objects.{object_start, object_size}
 use Rattle.roots.specs.Calls.{function}
 use Rattle.collection.specs.Joined.{joined}
 use Rattle.collect.specs.Collect.{collecting}
-use Rattle.door.specs.HeapCalls.{Test, admitted, whether, heap_tests, zeros, scratch_after, Outcome, outcome_of, calling, asked_of, asking as replying}
-use Rattle.door.specs.HeapCalls.{Entry}
-use Rattle.std.specs.Prelude.{Err}
-use Rattle.std.specs.Prelude.{Ok}
+use Rattle.door.specs.HeapCalls.{Test, admitted, whether, heap_tests, zeros, scratch_after, Outcome, outcome_of, calling, asked_of, asking as replying, Entry}
+use Rattle.std.specs.Prelude.{Err, Ok}
 use Rattle.object_door.specs.ObjectCalls.{allocating, recycling, take_call}
 use Rattle.heap_door.specs.Sealing.{sealing}
 use Rattle.collect_door.specs.Calls.{table_in, tests, Asked, table, frame, pinning, joined_tests, joining}
@@ -31,16 +28,17 @@ use Rattle.script.specs.Script.{lines, silent, quiet, doing as line_doing, line_
 use Rattle.script.specs.Calls.{Call as LineCall, alloc as alloc_line, take as take_line, seal as seal_line, recycle as recycle_line}
 use Rattle.script.specs.Reading.{call_of}
 use Rattle.run_door.specs.Run.{run_tests}
-use Rattle.histories.specs.Steps.{Told, Step, alloc, reissue, edit, write, take, free, recycle, seal, collect, ask, Answer, nothing as silence, handle, slot, object, told, saying, answering, silently, doing}
+use Rattle.histories.specs.Steps.{Told, Step, alloc, reissue, edit, write, take, free, recycle, seal, collect, ask, nothing as silence, handle, slot, object, told, saying, answering, silently, doing, Value}
 use Rattle.histories.specs.History.{after}
 use Rattle.histories.specs.Calls.{Scratch, Call, alloc_from, reissue as reissue_call, edit as edit_call, write as write_call, take as take_out, free as free_call, recycle as recycle_call, seal as seal_call, collect as collect_call, collect_joined, run, question, leaving, contract, turned, joined_step, line_step, unless_refused, line_steps, steps}
 use Rattle.histories.specs.Promises.{numbers, ended_by, ending, first_told, said_of, Does, CallsDoSteps, told_by, QuestionsAreCalls}
 use Rattle.histories.proofs.Histories.{after-grew}
+use lib.ListN.{length}
 
 -- ---- what is done where the tests are passed, and where not
 
 -- memory as steps leave it, and the answer
-pub record DoesBy (l : Lent) (o : Outcome) (cs : List Step) (says : Numbers) : Type 0 where
+pub record DoesBy (l : Lent) (o : Outcome) (cs : List Step) (says : Answer) : Type 0 where
   pub leaves : o.heap ≡ stored (slot_count l) (pool_size l) (after (slot_count l) (pool_size l) cs (view l))
   pub tells : o.answer ≡ says
 
@@ -50,11 +48,11 @@ module _ {A : Type 0} (first second : A → ℕ) (scratch : List (List ℕ)) (te
   unfolding doing
   turned-away why s = record { leaves = (formed-tested l wf).lies; tells = refl }
 
-  numbers_of : (f : A → Answer) → ((a : A) → numbers (ok (f a)) ≡ record { number = 0; first = first a; second = second a }) → (r : Result A) → answered first second r ≡ numbers (saying f r)
+  numbers_of : (f : A → Value) → ((a : A) → numbers (ok (f a)) ≡ record { number = 0; first = first a; second = second a }) → (r : Result A) → answered first second r ≡ numbers (saying f r)
   numbers_of f tell (ok a) = sym (tell a)
   numbers_of f tell (refused n) = refl
 
-  does-calling : (call : State → Changed A) (d : Step) (f : A → Answer) → doing (slot_count l) (pool_size l) d (view l) ≡ answering f (call (view l))
+  does-calling : (call : State → Changed A) (d : Step) (f : A → Value) → doing (slot_count l) (pool_size l) d (view l) ≡ answering f (call (view l))
       → ((a : A) → numbers (ok (f a)) ≡ record { number = 0; first = first a; second = second a })
       → let cs : List Step = whether (admitted tests) (λ why. turned (number_of why) ∷ []) (d ∷ []) in
       DoesBy l (calling first second scratch tests l call) cs (first_told (slot_count l) (pool_size l) cs (view l))
@@ -67,8 +65,8 @@ module _ {A : Type 0} (first second : A → ℕ) (scratch : List (List ℕ)) (te
           (first_told (slot_count l) (pool_size l) cs (view l))
       go (Ok _) =
           record {
-            leaves = ap (λ (r : Changed Answer). stored (slot_count l) (pool_size l) r.heap) (sym same);
-            tells = numbers_of f tell (call (view l)).answer ∙ ap (λ (r : Changed Answer). numbers r.answer) (sym same);
+            leaves = ap (λ (r : Changed Value). stored (slot_count l) (pool_size l) r.heap) (sym same);
+            tells = numbers_of f tell (call (view l)).answer ∙ ap (λ (r : Changed Value). numbers r.answer) (sym same);
           }
       go (Err why) = turned-away why (scratch_after (Err why) scratch)
 
@@ -84,7 +82,7 @@ joined_step_lem S P a h = go (frame a)
 
 -- ---- a run is its lines
 
-silent-saying : {A : Type 0} (f : A → Answer) (r : Result A) → silent r ≡ silent (saying f r)
+silent-saying : {A : Type 0} (f : A → Value) (r : Result A) → silent r ≡ silent (saying f r)
 silent-saying f (ok a) = refl
 silent-saying f (refused n) = refl
 
@@ -105,19 +103,19 @@ record Runs (S P : ℕ) (r : Changed Unit) (cs : List Step) (h : State) : Type 0
   leaves : r.heap ≡ after S P cs h
   ends : answered nothing nothing r.answer ≡ refused_by (ending S P cs h)
 
-run-first : (S P : ℕ) (c : Step) (h : State) (ls : List (List ℕ)) (a : Result Answer) → (doing S P c h).answer ≡ a
+run-first : (S P : ℕ) (c : Step) (h : State) (ls : List (List ℕ)) (a : Result Value) → (doing S P c h).answer ≡ a
     → Runs S P (run_lines S P ls (doing S P c h).heap) (line_steps S P ls (doing S P c h).heap) (doing S P c h).heap
     → Runs S P (unless (silent a) (doing S P c h).heap (run_lines S P ls)) (c ∷ unless_refused a (line_steps S P ls (doing S P c h).heap)) h
 run-first S P c h ls (ok v) e rest =
-    record { leaves = rest.leaves; ends = rest.ends ∙ ap (λ (b : Result Answer). refused_by (ended_by b (ending S P (line_steps S P ls (doing S P c h).heap) (doing S P c h).heap))) (sym e) }
-run-first S P c h ls (refused n) e rest = record { leaves = refl; ends = ap (λ (b : Result Answer). refused_by (ended_by b 0)) (sym e) }
+    record { leaves = rest.leaves; ends = rest.ends ∙ ap (λ (b : Result Value). refused_by (ended_by b (ending S P (line_steps S P ls (doing S P c h).heap) (doing S P c h).heap))) (sym e) }
+run-first S P c h ls (refused n) e rest = record { leaves = refl; ends = ap (λ (b : Result Value). refused_by (ended_by b 0)) (sym e) }
 
 run-lines : (S P : ℕ) (ls : List (List ℕ)) (h : State) → Runs S P (run_lines S P ls h) (line_steps S P ls h) h
 unfolding run_lines line_steps
 run-lines S P [] h = record { leaves = refl; ends = refl }
 run-lines S P (l ∷ ls) h =
     let c : Step = line_step (call_of l) in
-    let r : Changed Answer = doing S P c h in
+    let r : Changed Value = doing S P c h in
     subst (λ (x : Changed Unit). Runs S P (and_then x (run_lines S P ls)) (c ∷ unless_refused r.answer (line_steps S P ls r.heap)) h) (sym (line_does_lem S P (call_of l) h))
     (run-first S P c h ls r.answer refl (run-lines S P ls r.heap))
 
@@ -189,7 +187,7 @@ module _ (s : Scratch) (l : Lent) (wf : well_formed l ≡ true) where
   does-by (reissue_call i grown) = does-calling here nothing two front l wf (λ h. reissued h i grown) (reissue i grown) handle refl (λ a. refl)
   does-by (edit_call x bytes start) = does-calling here nothing two front l wf (λ h. edited (pool_size l) h x bytes start) (edit x bytes start) slot refl (λ a. refl)
   does-by (write_call i offset bytes) = does-calling nothing nothing two front l wf (λ h. written h i offset bytes) (write i offset bytes) (λ _. silence) refl (λ a. refl)
-  does-by (take_out x out) = does-calling size_of start_of two front l wf (λ h. take_into (length out) h x) (take (length out) x) object refl (λ a. refl)
+  does-by (take_out x out) = does-calling object_size object_start two front l wf (λ h. take_into (length out) h x) (take (length out) x) object refl (λ a. refl)
   does-by (free_call x) = does-calling nothing nothing two front l wf (λ h. freed h x) (free x) (λ _. silence) refl (λ a. refl)
   does-by (recycle_call pins) = does-calling nothing nothing two front l wf (recycling pins) (recycle pins) (λ _. silence) refl (λ a. refl)
   does-by seal_call = does-calling nothing nothing two front l wf sealing seal (λ _. silence) refl (λ a. refl)

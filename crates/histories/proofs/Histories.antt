@@ -5,8 +5,6 @@ use mathlib.Core.Logic.{◌⊎◌, inl, inr, ⊎_elim}
 use mathlib.Core.List.{List, [], ◌∷◌, ◌++◌}
 use mathlib.Core.Option.{Option, none, some}
 use Prim.Native.Nat.{ℕ, ◌+◌, ◌*◌, ◌≤◌}
-use native.Mathlib.Omega.{arith}
-use lib.ListN.{length}
 use Rattle.word.specs.Result.{Result, ok, refused}
 use Rattle.word.proofs.Bools.{either}
 use Rattle.handle.specs.Handle.{packed, tag_of, index_of, generation_of}
@@ -19,7 +17,6 @@ use Rattle.heap.proofs.Sound.{Sound}
 use Rattle.heap.proofs.Keeping.{live_inside}
 use Rattle.reach.specs.Reach.{Graph, Starts, ◌∈◌}
 use Rattle.reach.specs.Marking.{State as Marks, marking}
-use Rattle.reach.proofs.Grown.{∈-cases}
 use Rattle.collection.specs.Shown.{shown}
 use Rattle.collection.specs.Swept.{swept}
 use Rattle.collection.specs.Demand.{Survived}
@@ -27,14 +24,17 @@ use Rattle.collection.specs.Inner.Collects.{Collects}
 use Rattle.collection.specs.Collected.{graph, starts}
 use Rattle.collection.specs.Collecting.{swept_by, collected}
 use Rattle.collection.proofs.Demand.{collect-demand, collected-sound}
-use Rattle.histories.specs.Steps.{Step, alloc, reissue, edit, write, take, free, recycle, seal, collect, ask, Answer, nothing, handle, slot, object, told, silently, doing}
+use Rattle.histories.specs.Steps.{Step, alloc, reissue, edit, write, take, free, recycle, seal, collect, ask, nothing, handle, slot, object, told, silently, doing, Value}
 use Rattle.histories.specs.History.{after, handed, issued, Distinct, Resolves, books, if_ok, total, Drops, Lost}
 use Rattle.histories.proofs.Stepping.{age, Fresh, Issued, Stepped, no-issue, alloc_step, reissue-step, edit-step, write_step, take_step, free_step, recycle-step, seal-step, ask-step}
 use Rattle.histories.proofs.Chains.{Older, collected-older, drops-counted, drops-there}
+use Rattle.reach.proofs.Visiting.{∈-cases}
+use native.Mathlib.Omega.{arith}
+use lib.ListN.{length}
 
 -- ---- every step
 
-pub record Right (S P : ℕ) (c : Step) (h : State) (r : Changed Answer) : Type 0 where
+pub record Right (S P : ℕ) (c : Step) (h : State) (r : Changed Value) : Type 0 where
   pub sound : Sound S P r.heap
   pub tag : r.heap.tag ≡ h.tag
   pub ages : (j : ℕ) → age (slot_at h j) ≤ age (slot_at r.heap j)
@@ -45,10 +45,10 @@ pub record Right (S P : ℕ) (c : Step) (h : State) (r : Changed Answer) : Type 
   pub slots : length r.heap.slots ≡ length h.slots + if_ok r.answer (books c h).grown
 
 -- one that drops nothing
-abbrev DropsNone : Step → State → Result Answer → Type 1
+abbrev DropsNone : Step → State → Result Value → Type 1
 DropsNone c h r = ◌≡◌ {A = ℕ → Type 0} (Drops c h r) (λ n. n ≡ 0)
 
-right : (S P : ℕ) (c : Step) (h : State) (r : Changed Answer) → DropsNone c h r.answer → Stepped S P c h r → Right S P c h r
+right : (S P : ℕ) (c : Step) (h : State) (r : Changed Value) → DropsNone c h r.answer → Stepped S P c h r → Right S P c h r
 right S P c h r nil k =
     record {
       sound = k.sound;
@@ -155,7 +155,7 @@ apart h h' x a b =
     let e = packed-inj h.tag f.index f.generation h'.tag b.index b.generation f.index-fits f.generation-fits b.index-fits b.generation-fits (sym f.is ∙ b.is) in
     omega (arith, ap (λ (i : ℕ). age (slot_at h' i)) e.1, e.2, a.now, b.later)
 
-distinct_more : (r : Result Answer) (rest : List ℕ) → ((x : ℕ) → x ∈ handed r → x ∈ rest → ⊥) → Distinct rest → Distinct (handed r ++ rest)
+distinct_more : (r : Result Value) (rest : List ℕ) → ((x : ℕ) → x ∈ handed r → x ∈ rest → ⊥) → Distinct rest → Distinct (handed r ++ rest)
 distinct_more (refused n) rest new d = d
 distinct_more (ok nothing) rest new d = d
 distinct_more (ok (handle x)) rest new d = (new x (inl refl), d)

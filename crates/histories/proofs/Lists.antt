@@ -9,15 +9,15 @@ use native.Mathlib.Decide.{ℕ_discrete}
 use native.Mathlib.Nat.{not-suc-le-zero, le_of_suc-le-suc}
 use lib.ListN.{length, get_or, set}
 use lib.Dec.{leb}
-use borrow.Author.Tests.{eq-eqb, ne_eqb, le-leb, leb-true}
+use borrow.Author.Tests.{eq-eqb, ne_eqb, leb-true}
 use Rattle.std.specs.Prelude.{if◌then◌else◌}
 use Rattle.word.specs.Ones.{keep, passing}
-use Rattle.word.proofs.Bools.{and_both, both-and}
+use Rattle.word.proofs.Bools.{and_both}
 use Rattle.heap.specs.State.{Slot, no_slot, bit, times}
 use Rattle.heap.specs.Calls.{live_count}
 use Rattle.heap.proofs.Sound.{live_bit}
 use Rattle.heap.proofs.Counting.{sum, sum_same, sum-const, sum_first}
-use Rattle.heap_calls.specs.Pins.{rising_from}
+use Rattle.word.specs.Lists.{rising_from}
 use Rattle.reach.specs.Reach.{◌∈◌}
 
 -- what holds of both choices holds of the choice
@@ -43,26 +43,15 @@ unfolding live_count
 live-sum [] = sym (sum_same 0 (λ i. live_bit (get_or [] i no_slot)) (λ i. 0) (λ i h. absurd (omega arith)) ∙ sum-const 0 0)
 live-sum (s ∷ ss) = omega (arith, live-sum ss, sum_first (length ss) (λ i. live_bit (get_or (s ∷ ss) i no_slot)))
 
--- ---- in a list, and how often
+-- ---- how often in a list
 
-pub times-in : (x : ℕ) (xs : List ℕ) → x ∈ xs → 1 ≤ times x xs
-unfolding times
-times-in x [] m = absurd m
-times-in x (y ∷ ys) (inl e) = omega (arith, ap bit (eq-eqb y x (sym e)))
-times-in x (y ∷ ys) (inr m) = omega (arith, times-in x ys m)
-
-pub in-times : (x : ℕ) (xs : List ℕ) → 1 ≤ times x xs → x ∈ xs
-unfolding times
-in-times x [] h = absurd (omega arith)
-in-times x (y ∷ ys) h = elim (ℕ_discrete y x) [ yes e ↦ inl (sym e) | no ne ↦ inr (in-times x ys (omega (arith, ap bit (ne_eqb y x ne)))) ]
-
-rising-low : (a : ℕ) (xs : List ℕ) → rising_from a xs ≡ true → (x : ℕ) → x < a → times x xs ≡ 0
+rising-none : (a : ℕ) (xs : List ℕ) → rising_from a xs ≡ true → (x : ℕ) → x < a → times x xs ≡ 0
 unfolding rising_from times
-rising-low a [] e x h = refl
-rising-low a (y ∷ ys) e x h =
+rising-none a [] e x h = refl
+rising-none a (y ∷ ys) e x h =
     let q = and_both (leb a y) (rising_from (suc y) ys) e in
     let up : a ≤ y = leb-true a y q.0 in
-    omega (arith, ap bit (ne_eqb y x (omega arith)), rising-low (suc y) ys q.1 x (omega arith))
+    omega (arith, ap bit (ne_eqb y x (omega arith)), rising-none (suc y) ys q.1 x (omega arith))
 
 -- an entry stands once in a list that rises
 pub rising-once : (a : ℕ) (xs : List ℕ) → rising_from a xs ≡ true → (x : ℕ) → times x xs ≤ 1
@@ -71,28 +60,11 @@ rising-once a [] e x = omega arith
 rising-once a (y ∷ ys) e x =
     let q = and_both (leb a y) (rising_from (suc y) ys) e in
     elim (ℕ_discrete y x) [
-      | yes k ↦ omega (arith, ap bit (eq-eqb y x k), rising-low (suc y) ys q.1 x (omega arith))
+      | yes k ↦ omega (arith, ap bit (eq-eqb y x k), rising-none (suc y) ys q.1 x (omega arith))
       | no ne ↦ omega (arith, ap bit (ne_eqb y x ne), rising-once (suc y) ys q.1 x)
     ]
 
 -- ---- the numbers that pass a test
-
-rising-more : (a b : ℕ) (xs : List ℕ) → a ≤ b → rising_from b xs ≡ true → rising_from a xs ≡ true
-unfolding rising_from
-rising-more a b [] le e = refl
-rising-more a b (x ∷ xs) le e =
-    let q = and_both (leb b x) (rising_from (suc x) xs) e in
-    both-and (leb a x) (rising_from (suc x) xs) (le-leb a x (omega (arith, leb-true b x q.0))) q.1
-
-keep-rises : (t : Bool) (b : ℕ) (l : List ℕ) → rising_from (suc b) l ≡ true → rising_from b (keep t b l) ≡ true
-unfolding rising_from
-keep-rises true b l e = both-and (leb b b) (rising_from (suc b) l) (le-leb b b (omega arith)) e
-keep-rises false b l e = rising-more b (suc b) l (omega arith) e
-
-pub passing-rises : (p : ℕ → Bool) (b n : ℕ) → rising_from b (passing p b n) ≡ true
-unfolding passing rising_from
-passing-rises p b zero = refl
-passing-rises p b (suc n) = keep-rises (p b) b (passing p (suc b) n) (passing-rises p (suc b) n)
 
 keep-in : (t : Bool) (b x : ℕ) (l : List ℕ) → x ∈ l → x ∈ keep t b l
 keep-in true b x l m = inr m

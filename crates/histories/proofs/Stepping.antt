@@ -21,14 +21,15 @@ use Rattle.heap.proofs.Sound.{Sound, live_bit}
 use Rattle.heap.proofs.Counting.{inside, free-inside, times-member}
 use Rattle.heap.proofs.Keeping.{live_inside, take-sound}
 use Rattle.heap.proofs.Recycled.{recycle-sound}
-use Rattle.heap_calls.specs.Pins.{rising}
+use Rattle.word.specs.Lists.{rising}
 use Rattle.heap_calls.proofs.Allocating.{alloc-none, alloc-free, alloc-grow, alloc-full, alloc-sound, grown-at}
 use Rattle.heap_edit.proofs.Cases.{edit-unresolved, edit-full, edit-done, write-dead, write-hidden, write-beyond, write_done, reissue-dead, reissue-worn, reissue-done}
-use Rattle.heap_edit.proofs.Soundness.{edit-sound, write-sound, reissue-sound, seal-sound, resolved_live}
+use Rattle.heap_edit.proofs.Soundness.{edit-sound, write-sound, reissue-sound, seal-sound}
+use Rattle.heap.proofs.LiveSlots.{resolved_live}
 use Rattle.reach.specs.Reach.{◌∈◌}
-use Rattle.reach.proofs.Grown.{∈-one}
+use Rattle.reach.proofs.Visiting.{∈-one}
 use Rattle.object_door.specs.ObjectCalls.{is_kind, allocating, recycling}
-use Rattle.histories.specs.Steps.{Step, alloc, reissue, edit, write, take, free, recycle, seal, ask, Told, Answer, slot, object, answering, issuing, silently, asking}
+use Rattle.histories.specs.Steps.{Step, alloc, reissue, edit, write, take, free, recycle, seal, ask, Told, slot, object, answering, issuing, silently, asking, Value}
 use Rattle.histories.specs.History.{handed, books, if_ok}
 use Rattle.histories.proofs.Lists.{pick, live-set, live-push}
 
@@ -61,7 +62,7 @@ pub record Kept (S P : ℕ) (h h' : State) (issued : List ℕ) (placed grown gon
   pub slots : length h'.slots ≡ length h.slots + grown
 
 -- a step that is no collection
-abbrev pub Stepped : (S P : ℕ) → Step → State → Changed Answer → Type 0
+abbrev pub Stepped : (S P : ℕ) → Step → State → Changed Value → Type 0
 Stepped S P c h r =
     Kept S P h r.heap (handed r.answer) (if_ok r.answer (books c h).placed) (if_ok r.answer (books c h).grown) (if_ok r.answer (books c h).removed)
 

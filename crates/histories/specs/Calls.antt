@@ -17,7 +17,7 @@ use Rattle.script.specs.Script.{lines}
 use Rattle.script.specs.Calls.{Call as LineCall, alloc as alloc_line, take as take_line, seal as seal_line, recycle as recycle_line}
 use Rattle.script.specs.Reading.{call_of}
 use Rattle.run_door.specs.Run.{run_tests, run_call}
-use Rattle.histories.specs.Steps.{Told, Step, alloc as alloc_step, reissue as reissue_step, edit as edit_step, write as write_step, take as take_step, free as free_step, recycle as recycle_step, seal as seal_step, collect as collect_step, ask, Answer, doing}
+use Rattle.histories.specs.Steps.{Told, Step, alloc as alloc_step, reissue as reissue_step, edit as edit_step, write as write_step, take as take_step, free as free_step, recycle as recycle_step, seal as seal_step, collect as collect_step, ask, doing, Value}
 
 -- ---- the calls
 
@@ -108,7 +108,7 @@ line_step (some seal_line) = seal_step
 line_step (some recycle_line) = recycle_step []
 
 -- those that come after a step, unless it was refused
-abbrev pub unless_refused : Result Answer → List Step → List Step
+abbrev pub unless_refused : Result Value → List Step → List Step
 unless_refused (ok a) next = next
 unless_refused (refused n) next = []
 

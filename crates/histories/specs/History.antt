@@ -4,11 +4,11 @@ use Rattle.word.specs.Result.{Result, ok, refused}
 use Rattle.ty.specs.Types.{Table}
 use Rattle.heap.specs.State.{State, slot_at, live, bit}
 use Rattle.heap.specs.Calls.{resolve}
-use Rattle.heap_calls.specs.Pins.{rising}
+use Rattle.word.specs.Lists.{rising}
 use Rattle.reach.specs.Reach.{Starts, Reached, ◌∈◌}
 use Rattle.collection.specs.Collected.{graph, starts}
 use Rattle.collection.specs.Shown.{shown}
-use Rattle.histories.specs.Steps.{Step, alloc, reissue, edit, write, take, free, recycle, seal, collect, ask, Answer, nothing, handle, slot, object, told, doing}
+use Rattle.histories.specs.Steps.{Step, alloc, reissue, edit, write, take, free, recycle, seal, collect, ask, nothing, handle, slot, object, told, doing, Value}
 
 -- the heap after steps
 abbrev pub after : (S P : ℕ) → List Step → State → State
@@ -18,7 +18,7 @@ after S P (c ∷ cs) h = after S P cs (doing S P c h).heap
 -- ---- handles
 
 -- issued by one answer: only `alloc` and `reissue` answer a handle
-abbrev pub handed : Result Answer → List ℕ
+abbrev pub handed : Result Value → List ℕ
 handed (refused n) = []
 handed (ok nothing) = []
 handed (ok (handle x)) = x ∷ []
@@ -65,7 +65,7 @@ books seal h = no_books
 books (collect T roots pins) h = no_books
 books (ask question) h = no_books
 
-abbrev pub if_ok : Result Answer → ℕ → ℕ
+abbrev pub if_ok : Result Value → ℕ → ℕ
 if_ok (ok a) n = n
 if_ok (refused k) n = 0
 
@@ -84,7 +84,7 @@ pub record Unreached (T : Table) (F : Starts) (h : State) (n : ℕ) : Type 0 whe
   pub count : length slots ≡ n
 
 -- so many a step drops that gave this answer: none but where it is a collection that succeeded
-abbrev pub Drops : Step → State → Result Answer → ℕ → Type 0
+abbrev pub Drops : Step → State → Result Value → ℕ → Type 0
 Drops (alloc kind type start bytes) h r n = n ≡ 0
 Drops (reissue i grown) h r n = n ≡ 0
 Drops (edit x bytes start) h r n = n ≡ 0

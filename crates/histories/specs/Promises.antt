@@ -3,35 +3,35 @@
 use Rattle.std.specs.Prelude.{◌≡◌, true, List, [], ◌∷◌, ◌++◌, ℕ, ◌+◌, length}
 use Rattle.word.specs.Result.{Result, ok, refused}
 use Rattle.refusal.specs.Told.{refused_by}
-use Rattle.refusal.specs.declared.Answer.{Answer as Numbers}
+use Rattle.refusal.specs.declared.Answer.{Answer}
 use Rattle.heap.specs.State.{State}
 use Rattle.heap.specs.Lent.{Lent, stored, view, slot_count, pool_size}
 use Rattle.heap.specs.WellFormed.{well_formed}
 use Rattle.heap.specs.Calls.{live_count}
-use Rattle.heap_calls.specs.Objects.{size_of, start_of}
+use Rattle.heap_calls.specs.Objects.{object_start, object_size}
 use Rattle.collection.specs.Collected.{starts}
 use Rattle.door.specs.HeapCalls.{Test, admitted, heap_tests, asking}
 use Rattle.door.specs.HeapCalls.{ready}
 use Rattle.collect_door.specs.Calls.{Asked}
 use Rattle.collect_door.specs.Demand.{StartsAt}
 use Rattle.object_door.specs.Making.{new_call}
-use Rattle.histories.specs.Steps.{Told, Step, Answer, nothing, handle, slot, object, told, doing}
+use Rattle.histories.specs.Steps.{Told, Step, nothing, handle, slot, object, told, doing, Value}
 use Rattle.histories.specs.History.{Books, after, issued, Distinct, Resolves, total, Lost}
 use Rattle.histories.specs.Calls.{Scratch, Call, alloc_from, reissue, edit, write, take, free, recycle, seal, collect, collect_joined, run, question, leaving, contract, tests_of, joined_roots, joined_pins, steps, Made, left, all_steps}
 
 -- ---- a call does its steps
 
 -- the numbers that a host is told of a step's answer
-abbrev pub numbers : Result Answer → Numbers
+abbrev pub numbers : Result Value → Answer
 numbers (refused n) = refused_by n
 numbers (ok nothing) = record { number = 0; first = 0; second = 0 }
 numbers (ok (handle x)) = record { number = 0; first = x; second = 0 }
 numbers (ok (slot i)) = record { number = 0; first = i; second = 0 }
-numbers (ok (object o)) = record { number = 0; first = size_of o; second = start_of o }
+numbers (ok (object o)) = record { number = 0; first = object_size o; second = object_start o }
 numbers (ok (told t)) = record { number = 0; first = t.first; second = t.second }
 
 -- of steps one after the other: 0, or the number of the refusal that ended them
-abbrev pub ended_by : Result Answer → (rest : ℕ) → ℕ
+abbrev pub ended_by : Result Value → (rest : ℕ) → ℕ
 ended_by (ok a) rest = rest
 ended_by (refused n) rest = n
 
@@ -40,11 +40,11 @@ ending S P [] h = 0
 ending S P (c ∷ cs) h = ended_by (doing S P c h).answer (ending S P cs (doing S P c h).heap)
 
 -- what a host is told of a call: of `run` how its lines ended, of each other call what its one step answers
-abbrev pub first_told : (S P : ℕ) → List Step → State → Numbers
+abbrev pub first_told : (S P : ℕ) → List Step → State → Answer
 first_told S P [] h = refused_by 0
 first_told S P (c ∷ cs) h = numbers (doing S P c h).answer
 
-abbrev pub said_of : Call → (S P : ℕ) → List Step → State → Numbers
+abbrev pub said_of : Call → (S P : ℕ) → List Step → State → Answer
 said_of (alloc_from kind type start bytes) S P cs h = first_told S P cs h
 said_of (reissue i grown) S P cs h = first_told S P cs h
 said_of (edit x bytes start) S P cs h = first_told S P cs h

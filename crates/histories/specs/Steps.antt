@@ -29,32 +29,32 @@ pub data Step : Type 0 where
   collect : (types : Table) (roots pins : List ℕ) → Step
   ask : (question : State → Result Told) → Step
 
-pub data Answer : Type 0 where
-  nothing : Answer
-  handle : ℕ → Answer
-  slot : ℕ → Answer
-  object : Object → Answer
-  told : Told → Answer
+pub data Value : Type 0 where
+  nothing : Value
+  handle : ℕ → Value
+  slot : ℕ → Value
+  object : Object → Value
+  told : Told → Value
 
-abbrev pub saying : {A : Type 0} → (A → Answer) → Result A → Result Answer
+abbrev pub saying : {A : Type 0} → (A → Value) → Result A → Result Value
 saying f (ok a) = ok (f a)
 saying f (refused n) = refused n
 
 -- what a call answers and leaves, its answer as one of these
-abbrev pub answering : {A : Type 0} → (A → Answer) → Changed A → Changed Answer
+abbrev pub answering : {A : Type 0} → (A → Value) → Changed A → Changed Value
 answering f c = record { answer = saying f c.answer; heap = c.heap }
 
 -- `alloc` and `reissue` answer the handle that they issue
-abbrev pub issuing : Changed ℕ → Changed Answer
+abbrev pub issuing : Changed ℕ → Changed Value
 issuing c = answering handle c
 
-abbrev pub silently : Changed Unit → Changed Answer
+abbrev pub silently : Changed Unit → Changed Value
 silently c = answering (λ _. nothing) c
 
-abbrev pub asking : State → Result Told → Changed Answer
+abbrev pub asking : State → Result Told → Changed Value
 asking h r = record { answer = saying told r; heap = h }
 
-unfoldable pub doing : (S P : ℕ) → Step → State → Changed Answer
+unfoldable pub doing : (S P : ℕ) → Step → State → Changed Value
 doing S P (alloc kind type start bytes) h = issuing (allocating S P kind type start bytes h)
 doing S P (reissue i grown) h = issuing (reissued h i grown)
 doing S P (edit x bytes start) h = answering slot (edited P h x bytes start)

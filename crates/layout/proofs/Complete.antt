@@ -7,8 +7,8 @@ use lib.ListN.{length, drop}
 use Rattle.std.specs.Prelude.{Some, None, Ok, Err}
 use Rattle.ty.specs.Types.{Ty, Ty.missing, Ty.int, Ty.physical, Ty.enum, Ty.real, Ty.array, Ty.fields, Ty.access, Ty.file, Ty.protected, Field, Field.field, Table, type_at}
 use Rattle.ty.specs.Words.{word_of, on_word, round_up, Word}
-use Rattle.layout.specs.Layout.{Lay, on_ok, under, used_by, placed, record_of, layout_by, layout_at, layout_of}
-use Rattle.layout.specs.Offsets.{if_laid, offsets_from, offsets_of, fields_of}
+use Rattle.layout.specs.Layout.{Lay, on_ok, under, used_by, placed, record_of, layout_by, layout_at, layout_of, on_laid}
+use Rattle.layout.specs.Offsets.{offsets_from, offsets_of, fields_of}
 use Rattle.refusal.specs.declared.Refusal.TheVariants.{TooLarge}
 use Rattle.layout.specs.declared.Layout.{Layout}
 
@@ -23,7 +23,7 @@ module _ (r : Layout) where
     by-start n b v None q = let z : ◌≡◌ {A = ℕ} 0 1 = cc in absurd (omega arith)
     by-start n b v (Some o) q = by_end o b v (word_of (o + n)) q
 
-    by-laid : (off : ℕ) (l : Lay) → on_ok l (λ k. on_word (Err TooLarge) (placed off k.align k.size) (λ e. rec e k.align k.used)) ≡ Ok r → length (if_laid l (λ k. on_word [] (word_of (round_up off k.align)) (λ o. on_word [] (word_of (o + k.size)) (λ e. o ∷ more e k.used)))) ≡ suc k
+    by-laid : (off : ℕ) (l : Lay) → on_ok l (λ k. on_word (Err TooLarge) (placed off k.align k.size) (λ e. rec e k.align k.used)) ≡ Ok r → length (on_laid [] l (λ k. on_word [] (word_of (round_up off k.align)) (λ o. on_word [] (word_of (o + k.size)) (λ e. o ∷ more e k.used)))) ≡ suc k
     unfolding placed
     by-laid off (Ok k) q = by-start k.size k.align k.used (word_of (round_up off k.align)) q
     by-laid off (Err x) q = let z : ◌≡◌ {A = ℕ} 0 1 = cc in absurd (omega arith)

@@ -2,10 +2,6 @@
 use mathlib.Core.Path.{◌≡◌, refl, ap, ◌∙◌}
 use mathlib.Core.List.{List, [], ◌∷◌}
 use Prim.Native.Nat.{ℕ, zero, suc, ◌+◌, ◌-◌, ◌*◌, ◌/◌, ◌≤◌, ◌<◌}
-use native.Mathlib.Nat.{zero-add}
-use native.Mathlib.Omega.{arith}
-use lib.ListN.{length, take, drop, get_or, set}
-use borrow.Author.Tests.{lt-leb, le-leb}
 use Rattle.std.specs.Prelude.{Option, Some, None, Ok, Err}
 use Rattle.word.specs.Put.{put}
 use Rattle.word.proofs.PutLaws.{put-none, Filling, fill_start, fill-next, fill_stop, fill-length}
@@ -19,11 +15,15 @@ use Rattle.ty.specs.declared.Entry.TheVariants.{Int, Physical, Enum, Real, Array
 use Rattle.ty.specs.declared.Table.{Table as Lent}
 use Rattle.ty.proofs.Lookup.{type-at}
 use Rattle.ty.proofs.WalkLaws.{fields-first, fields-last, fields-next}
-use Rattle.layout.specs.Layout.{Lay, under, used_by, layout_at, layout_of}
-use Rattle.layout.specs.Offsets.{if_laid, offsets_from, offsets_of, fields_of, layout_call}
+use Rattle.layout.specs.Layout.{Lay, under, used_by, layout_at, layout_of, on_laid}
+use Rattle.layout.specs.Offsets.{offsets_from, offsets_of, fields_of, layout_call}
 use Rattle.layout.specs.Inner.Told.{told}
 use Rattle.layout.specs.declared.Layout.{Layout}
 use Rattle.word.proofs.ListLaws.{rest}
+use native.Mathlib.Nat.{zero-add}
+use native.Mathlib.Omega.{arith}
+use lib.ListN.{length, take, drop, get_or, set}
+use borrow.Author.Tests.{lt-leb, le-leb}
 
 module _ (T : Table) (next : ℕ → List ℕ → Lay) (fs : List ℕ) (f n i : ℕ) (d : List ℕ) (off used : ℕ) where
   pub off-last : n ≤ i → offsets_from T next (fields_from fs (f + i) (n - i)) d off used ≡ []
@@ -81,7 +81,7 @@ module _ (k : ℕ) (more : ℕ → ℕ → List ℕ) (small : (e u : ℕ) → le
   starts s u None = omega arith
   starts s u (Some o) = ends o u (word_of (o + s))
 
-  one_more : (off : ℕ) (l : Lay) → length (if_laid l (λ v. on_word [] (word_of (round_up off v.align)) (λ o. on_word [] (word_of (o + v.size)) (λ e. o ∷ more e v.used)))) ≤ suc k
+  one_more : (off : ℕ) (l : Lay) → length (on_laid [] l (λ v. on_word [] (word_of (round_up off v.align)) (λ o. on_word [] (word_of (o + v.size)) (λ e. o ∷ more e v.used)))) ≤ suc k
   one_more off (Ok v) = starts v.size v.used (word_of (round_up off v.align))
   one_more off (Err e) = omega arith
 

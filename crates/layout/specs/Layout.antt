@@ -20,6 +20,11 @@ Dims = Result ℕ Refusal
 abbrev pub laid : (size align stride count used : ℕ) → Lay
 laid s a st n u = Ok (record { size = s; align = a; stride = st; count = n; used = u })
 
+-- what follows from a layout, and a where there is none
+abbrev pub on_laid : {A : Type 0} → A → Lay → (Layout → A) → A
+on_laid a (Ok l) f = f l
+on_laid a (Err e) f = a
+
 -- the descriptor word that starts at byte i, little-endian
 abbrev pub desc_word : List ℕ → ℕ → ℕ
 desc_word d i = le (take 8 (drop i d))

@@ -5,18 +5,14 @@ use Rattle.word.specs.Result.{Result, ok, refused}
 use Rattle.ty.specs.Types.{Ty, Ty.fields, Field, Field.field, Table, type_at}
 use Rattle.ty.specs.Words.{word_of, on_word, round_up}
 use Rattle.refusal.specs.Told.{number_of}
-use Rattle.layout.specs.Layout.{Lay, under, used_by, layout_at, layout_of}
+use Rattle.layout.specs.Layout.{Lay, under, used_by, layout_at, layout_of, WithOffsets, on_laid}
 use Rattle.layout.specs.declared.Layout.{Layout}
-
-abbrev pub if_laid : Lay → (Layout → List ℕ) → List ℕ
-if_laid (Ok l) f = f l
-if_laid (Err e) f = []
 
 -- the offsets of the fields, up to the first that cannot be placed, of which a record that has a layout has none (proofs/Complete.antt)
 unfoldable pub offsets_from : Table → (ℕ → List ℕ → Lay) → List Field → List ℕ → ℕ → ℕ → List ℕ
 offsets_from T next [] d off used = []
 offsets_from T next (field t c ∷ fs) d off used =
-    if_laid (under T next t c (drop used d)) (λ l.
+    on_laid [] (under T next t c (drop used d)) (λ l.
     on_word [] (word_of (round_up off l.align)) (λ o.
     on_word [] (word_of (o + l.size)) (λ e. o ∷ offsets_from T next fs d e (used + used_by c l.used))))
 

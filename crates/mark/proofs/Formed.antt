@@ -10,11 +10,12 @@ use lib.Dec.{eqb, ltb}
 use borrow.Author.Tests.{lt-ltb, le-ltb, ne_eqb}
 use native.Mathlib.Decide.{dec_lt}
 use native.Mathlib.Omega.{arith}
-use Rattle.word.specs.Run.{run}
+use Rattle.word.specs.Run.{run, start_of}
 use Rattle.handle.specs.Handle.{index_of}
 use Rattle.handle.specs.Inner.Columns.{live_in}
 use Rattle.handle.proofs.ResolveLaws.{resolve_same}
-use Rattle.heap.specs.Packing.{flat, ends, start_of, data_at}
+use Rattle.heap.specs.Packing.{ends, data_at}
+use Rattle.std.specs.List.{concat}
 use Rattle.heap.specs.State.{Slot, no_slot, slot_at, data_of, live}
 use Rattle.heap.specs.declared.Heap.{Heap}
 use Rattle.heap.specs.Lent.{Lent, lent, stored, header_of, view, slot_count, pool_size}
@@ -62,10 +63,10 @@ module _ (h : Heap) (narrow wide pool : List ℕ) (wf : well_formed (lent h narr
 
   -- ---- the columns have each slot, and the data its place
 
-  start_is : (i : ℕ) → i ≤ length (view l).slots → start_of l.end i ≡ length (flat (take i (data_of (view l).slots)))
+  start_is : (i : ℕ) → i ≤ length (view l).slots → start_of l.end i ≡ length (concat (take i (data_of (view l).slots)))
   start_is i h = ap (λ (e : List ℕ). start_of e i) facts.end ∙ start-of (slot_count l) (data_of (view l).slots) i (omega (arith, n-data))
 
-  end_is : (i : ℕ) → i < length (view l).slots → get_or l.end i 0 ≡ length (flat (take (suc i) (data_of (view l).slots)))
+  end_is : (i : ℕ) → i < length (view l).slots → get_or l.end i 0 ≡ length (concat (take (suc i) (data_of (view l).slots)))
   end_is i h = ap (λ (e : List ℕ). get_or e i 0) facts.end ∙ end-at (slot_count l) (data_of (view l).slots) i (omega (arith, n-data))
 
   pub formed-fit : Fit h.slots (length narrow / 6) narrow wide pool
@@ -82,8 +83,8 @@ module _ (h : Heap) (narrow wide pool : List ℕ) (wf : well_formed (lent h narr
             omega (arith, end_is i j, facts.data-fit, facts.pool-size, flat-mono (data_of (view l).slots) (suc i) (length (data_of (view l).slots)) (omega (arith, n-data)), all-data);
       }
     where
-      all-data : length (flat (take (length (data_of (view l).slots)) (data_of (view l).slots))) ≡ length (flat (data_of (view l).slots))
-      all-data = ap (λ (d : List (List ℕ)). length (flat d)) (take_all (length (data_of (view l).slots)) (data_of (view l).slots) (omega arith))
+      all-data : length (concat (take (length (data_of (view l).slots)) (data_of (view l).slots))) ≡ length (concat (data_of (view l).slots))
+      all-data = ap (λ (d : List (List ℕ)). length (concat d)) (take_all (length (data_of (view l).slots)) (data_of (view l).slots) (omega arith))
 
   pub formed-few : h.slots ≤ 16777216
   formed-few = omega (arith, facts.slot_count, formed.sound.slots-fit, formed.sound.slot-range)

@@ -13,15 +13,15 @@ use Rattle.reach.specs.Reach.{Graph}
 use Rattle.reach.specs.Marking.{State, follow_all, pin_all, drained}
 use Rattle.mark.specs.Inner.Graph.{leads_to, graph_in, held_in}
 use Rattle.mark.specs.Inner.Scratch.{state_of, Scratch, Holds, following, Traces, seeded_from}
-use Rattle.mark.proofs.Bridge.{traces, follows-append}
-use Rattle.mark.proofs.Inside.{resolves-in}
+use Rattle.mark.proofs.TracedIntoQueue.{traces, follows-append}
+use Rattle.mark.proofs.ResolvedInside.{resolves-in}
 use Rattle.mark.specs.Inner.Joining.{in_use, taking, joined_from}
 use Rattle.addresses.specs.Listed.{slots_of}
 use Rattle.addresses.proofs.Listing.{slots-append}
 use Rattle.mark.specs.declared.queue.Queue.{Queue}
 use Rattle.mark.specs.Inner.Queues.{state, Becomes}
 use Rattle.mark.proofs.States.{then-same}
-use Rattle.mark.proofs.Draining.{drained-live}
+use Rattle.mark.proofs.QueueLoop.{drained-live}
 use Rattle.mark.proofs.Holding.{pins-append}
 
 -- the scratch after the frame

@@ -1,20 +1,10 @@
 -- Slots that are held: pins, and the slots of addresses. Assumes nothing.
 use Prim.Native.Nat.{ℕ, ◌+◌, ◌-◌, ◌*◌, ◌/◌, ◌≤◌, ◌<◌}
-use mathlib.Core.Path.{◌≡◌, refl, sym, ap, ◌∙◌, subst}
-use mathlib.Core.Bool.{Bool, true, false}
-use mathlib.Core.Option.{Option}
-use mathlib.Core.List.{List, [], ◌∷◌, ◌++◌, append-nil}
-use lib.ListN.{length, get_or, take, drop, length-drop, drop_of_length-le}
-use lib.Dec.{eqb}
-use borrow.Author.Tests.{lt-ltb, le-ltb, le-leb, lt-leb, eq-eqb, ne_eqb}
-use native.Mathlib.Omega.{arith}
-use Rattle.std.specs.Prelude.{if◌then◌else◌}
-use Rattle.word.proofs.ListLaws.{drop-cons-one}
-use Rattle.word.proofs.ListLaws.{rest}
+use Rattle.std.specs.Prelude.{if◌then◌else◌, Option as MaybeSlot, Some, None}
+use Rattle.word.proofs.ListLaws.{drop-cons-one, rest}
 use Rattle.trace.specs.Places.{handle_at}
 use Rattle.addresses.specs.Listed.{slot_of, slots_of}
 use Rattle.addresses.specs.Inner.Told.{told}
-use Rattle.std.specs.Prelude.{Option as MaybeSlot, Some, None}
 use Rattle.addresses.proofs.Listing.{slots-append}
 use Rattle.std.specs.Simd.{first_chunks}
 use Rattle.word.proofs.ChunkLaws.{row-part}
@@ -26,8 +16,16 @@ use Rattle.mark.specs.Inner.Scratch.{state_of, Scratch, Holds}
 use Rattle.mark.specs.Inner.Joining.{in_use, taking}
 use Rattle.mark.specs.declared.queue.Queue.{Queue}
 use Rattle.mark.specs.Inner.Queues.{state, Becomes}
-use Rattle.mark.proofs.Bridge.{follows-append}
 use Rattle.mark.proofs.States.{Pushing, pushing-next, pushing-part, pushing-end}
+use Rattle.mark.proofs.TracedIntoQueue.{follows-append}
+use mathlib.Core.Path.{◌≡◌, refl, sym, ap, ◌∙◌, subst}
+use mathlib.Core.Bool.{Bool, true, false}
+use mathlib.Core.Option.{Option}
+use mathlib.Core.List.{List, [], ◌∷◌, ◌++◌, append-nil}
+use lib.ListN.{length, get_or, take, drop, length-drop, drop_of_length-le}
+use lib.Dec.{eqb}
+use borrow.Author.Tests.{lt-ltb, le-ltb, le-leb, lt-leb, eq-eqb, ne_eqb}
+use native.Mathlib.Omega.{arith}
 
 pub pins-append : (L : ℕ → Bool) (s : State) (a b : List ℕ) → pin_all L s (a ++ b) ≡ pin_all L (pin_all L s a) b
 pins-append L s [] b = refl

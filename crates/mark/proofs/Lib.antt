@@ -1,10 +1,10 @@
 -- What the proofs of several functions and other crates use.
 pub mod States
-pub mod Bridge
-pub mod Draining
-pub mod Inside
+pub mod TracedIntoQueue
+pub mod QueueLoop
+pub mod ResolvedInside
 pub mod Formed
 pub mod RowPushes
 pub mod FrameMarks
-pub mod Whole
+pub mod HeapMarked
 pub mod Holding

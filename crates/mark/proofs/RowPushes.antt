@@ -28,8 +28,8 @@ use Rattle.mark.specs.declared.queue.Queue.{Queue}
 use Rattle.mark.specs.Inner.Queues.{state, IsReady, Becomes}
 use Rattle.mark.proofs.States.{same-again, Pushing, pushing-part, pushing-end}
 use Rattle.mark.proofs.Holding.{taking-none, taking-append}
-use Rattle.mark.proofs.Bridge.{emit-met}
-use Rattle.mark.proofs.Inside.{resolves-in}
+use Rattle.mark.proofs.TracedIntoQueue.{emit-met}
+use Rattle.mark.proofs.ResolvedInside.{resolves-in}
 use Rattle.collection.specs.Joined.{of_class, values_of}
 use Rattle.mark.specs.Inner.Joining.{in_use, taking, value_of, row_values}
 

@@ -1,5 +1,16 @@
 -- The scratch as a state: one object met, and a list of handles or pins taken in turn. Room in the queue comes by counting the marks. Assumes nothing.
 use Prim.Native.Nat.{ℕ, suc, ◌+◌, ◌^◌, ◌≤◌, ◌<◌}
+use Rattle.word.specs.Run.{run}
+use Rattle.word.proofs.RunLaws.{run-get}
+use Rattle.handle.specs.Inner.Columns.{live_in}
+use Rattle.handle.proofs.ResolveLaws.{live-beyond, live-not, live-there}
+use Rattle.reach.specs.Marking.{State, visit, pin_if}
+use Rattle.reach.specs.Inner.Good.{Good}
+use Rattle.trace.specs.Inner.Emit.{over}
+use Rattle.mark.specs.Inner.Scratch.{low, high, state_of, Holds, Scratch, Noted, Clear}
+use Rattle.mark.specs.declared.queue.Queue.{Queue}
+use Rattle.mark.specs.Inner.Queues.{state, IsReady, SameLoans, Becomes}
+use Rattle.reach.proofs.Visiting.{sum-set, sum-le, visit-grown, good-nothing}
 use mathlib.Core.Path.{◌≡◌, refl, sym, ap, ◌∙◌, subst}
 use mathlib.Core.Logic.{⊎_elim}
 use mathlib.Core.List.{List, [], ◌∷◌, ◌++◌, map, map-append}
@@ -9,17 +20,6 @@ use borrow.Author.Tests.{eq-eqb, ne_eqb}
 use native.Mathlib.Numerals.{add-one}
 use native.Mathlib.Decide.{ℕ_discrete}
 use native.Mathlib.Omega.{arith}
-use Rattle.word.specs.Run.{run}
-use Rattle.word.proofs.RunLaws.{run-get}
-use Rattle.handle.specs.Inner.Columns.{live_in}
-use Rattle.handle.proofs.ResolveLaws.{live-beyond, live-not, live-there}
-use Rattle.reach.specs.Marking.{State, visit, pin_if}
-use Rattle.reach.specs.Inner.Good.{Good}
-use Rattle.reach.proofs.Grown.{sum-set, sum-le, visit-grown, good-nothing}
-use Rattle.trace.specs.Inner.Emit.{over}
-use Rattle.mark.specs.Inner.Scratch.{low, high, state_of, Holds, Scratch, Noted}
-use Rattle.mark.specs.declared.queue.Queue.{Queue}
-use Rattle.mark.specs.Inner.Queues.{state, IsReady, SameLoans, Becomes}
 
 -- an unmarked slot leaves room in the queue
 pub unmarked-room : (n : ℕ) (s : State) → Good n s → (i : ℕ) → i < n → get_or s.marks i 0 ≡ 0 → length s.queue < n
@@ -136,3 +136,6 @@ module _ (slots S : ℕ) (narrow marks work : List ℕ) (n i : ℕ) (c : Scratch
     pub pin-live : (get_or narrow (S + i) 0 ≡ 0 → ⊥) → (marks' work' : List ℕ) (n' : ℕ) → Holds slots marks' work' n' (visit (state_of marks work n) i)
         → Holds slots marks' work' n' (pin_if (live_in slots (run S S narrow) i) (state_of marks work n) i)
     pin-live e marks' work' n' k = rw (live-there slots (run S S narrow) i h (λ z. e (sym kind_at ∙ z))) k
+
+pub clear-scratch : (slots : ℕ) (marks work : List ℕ) → Clear slots marks work → Scratch slots marks work 0
+clear-scratch slots marks work c = scratch-start slots marks work c.few c.clear c.room

@@ -8,7 +8,8 @@ use Rattle.std.specs.Prelude.{Option, Some, None}
 use Rattle.ty.specs.Types.{Const.plain, Table}
 use Rattle.ty.specs.View.{part_at, read_part, table_of}
 use Rattle.ty.proofs.Lookup.{const-at}
-use Rattle.heap.specs.Packing.{start_of, data_at}
+use Rattle.heap.specs.Packing.{data_at}
+use Rattle.word.specs.Run.{start_of}
 use Rattle.heap.specs.State.{State, slot_at}
 use Rattle.heap.specs.Calls.{resolve}
 use Rattle.places.specs.StrideZero.{ShortConstants}
@@ -17,7 +18,7 @@ use Rattle.collection.specs.Shown.{shown as shown_in}
 use Rattle.collection.proofs.Demand.{sized}
 use Rattle.alike.specs.Same.{shown, Counted, OneTable, Slots}
 use Rattle.models.specs.HeapModel.{heap_model}
-use Rattle.models.proofs.Front.{counted, one_table, object-shown}
+use Rattle.models.proofs.DescriptorFirst.{counted, one_table, object-shown}
 
 module _ (T : Table) (h : State) where
   pub heap-resolve : (x : ℕ) → found (resolve h x) ≡ (heap_model T h).resolve x

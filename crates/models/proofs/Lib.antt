@@ -1,6 +1,6 @@
-pub mod Front
-pub mod Along
+pub mod DescriptorFirst
+pub mod BytesOutside
 pub mod SlotPlaces
-pub mod Sides
+pub mod ObjectOrder
 pub mod Visible
 pub mod Heaps

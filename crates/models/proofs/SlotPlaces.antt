@@ -17,7 +17,7 @@ use Rattle.places.proofs.PlacesRise.{apart-wide, moved_apart, places-rise}
 use Rattle.alike.specs.Order.{order}
 use Rattle.models.specs.Objects.{outside, moved, slot_places}
 use Rattle.models.specs.Inner.Along.{rest_from}
-use Rattle.models.proofs.Along.{rest-along}
+use Rattle.models.proofs.BytesOutside.{rest-along}
 
 module _ (T : Table) (small : ShortConstants T) where
   -- THE THEOREM: the handle places of a slot stand one after the other in its data

@@ -26,7 +26,7 @@ use Rattle.alike.proofs.Orders.{order-refl}
 use Rattle.alike.proofs.Turns.{then-assoc, then-after, order-append}
 use Rattle.models.specs.Objects.{moved, slot_places, object_of}
 use Rattle.models.specs.Inner.Along.{visible_in_one_go}
-use Rattle.models.proofs.Sides.{then_equal, slots-in-one-go}
+use Rattle.models.proofs.ObjectOrder.{then_equal, slots-in-one-go}
 
 module _ (place : ℕ → ℕ → Ordering) where
   abbrev at : ℕ → Ordering → Ordering → Beside

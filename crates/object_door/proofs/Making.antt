@@ -3,31 +3,28 @@ use mathlib.Core.Path.{◌≡◌, refl, sym, ap, ◌∙◌}
 use mathlib.Core.Bool.{Bool, true, false, ◌&&◌}
 use mathlib.Core.List.{List, [], ◌∷◌}
 use Prim.Native.Nat.{ℕ, ◌/◌}
-use native.Mathlib.Omega.{arith}
-use lib.ListN.{length}
-use lib.Dec.{leb}
-use borrow.Author.Tests.{le-leb}
 use Rattle.word.specs.Lists.{all, all_below}
 use Rattle.refusal.specs.Told.{told, nothing}
 use Rattle.refusal.specs.declared.Answer.{Answer}
 use Rattle.refusal.specs.declared.Refusal.{Refusal}
 use Rattle.refusal.specs.declared.Refusal.TheVariants.{BrokenHeap, Scratch}
 use Rattle.std.specs.Prelude.{Ok, Err}
-use Rattle.heap.specs.Packing.{flat}
 use Rattle.heap.specs.Lent.{Lent, lent, stored, view}
 use Rattle.heap.specs.WellFormed.{partitioned, retired_rightly, sound_seals, sound_reclaim, sound, fits, well_formed}
 use Rattle.heap.specs.Calls.{new}
 use Rattle.heap.specs.Inner.Tells.{Tells}
 use Rattle.heap.specs.declared.Heap.{Heap}
 use Rattle.heap.proofs.Testing.{stored-formed}
-use Rattle.door.specs.HeapCalls.{test, admitted, enough, zeros, outcome}
+use Rattle.door.specs.HeapCalls.{test, admitted, zeros, outcome, Entry, ready}
 use Rattle.door.specs.Inner.Entered.{Entered}
-use Rattle.door.specs.HeapCalls.{Entry}
-use Rattle.door.specs.HeapCalls.{ready}
-use Rattle.door.proofs.Entering.{fails, passes, passed, call-refused, call-ready}
+use Rattle.door.proofs.Entering.{fails, passes, passed, call-refused, fits-is, call-ready}
 use Rattle.heap.specs.Sizes.{sizes_fit}
 use Rattle.heap.proofs.Sizes.{Sizes, sizes-tested}
 use Rattle.object_door.specs.Making.{no_header, new_tests, making, new_call}
+use native.Mathlib.Omega.{arith}
+use lib.ListN.{length}
+use lib.Dec.{leb}
+use borrow.Author.Tests.{le-leb}
 
 -- ---- a new heap is well formed
 
@@ -36,7 +33,7 @@ unfolding sound new all partitioned retired_rightly all_below sound_seals sound_
 new-sound tag = refl
 
 new-fits : (n w p tag : ℕ) → Sizes n w p → fits (n / 6) p (new tag) ≡ true
-unfolding fits new flat
+unfolding fits new
 new-fits n w p tag s =
     simp (
       le-leb 1 (n / 6) s.low,
@@ -56,22 +53,18 @@ module _ (m w narrow wide pool : List ℕ) where
   l = lent no_header narrow wide pool
 
   module _ {u : Bool} (v : u ≡ (leb (length narrow / 6) (length m) && leb (length narrow / 6) (length w))) where
-    fits-is : u ≡ enough m w l
-    unfolding enough
-    fits-is = v
-
     pub new-no-scratch : u ≡ false → Entered (m ∷ w ∷ []) (new_tests m w narrow wide pool) (Err Scratch) (m ∷ w ∷ [])
-    new-no-scratch h = record { found = fails _ _ _ (sym fits-is ∙ h); left = refl }
+    new-no-scratch h = record { found = fails _ _ _ (sym (fits-is m w l v) ∙ h); left = refl }
 
     module _ (h : u ≡ true) (r : Bool) (m' w' : List ℕ) (f : r ≡ sizes_fit (length narrow) (length wide) (length pool)) (z : m' ≡ zeros m) (y : w' ≡ zeros w) where
       pub new-no-sizes : r ≡ false → Entered (m ∷ w ∷ []) (new_tests m w narrow wide pool) (Err BrokenHeap) (m' ∷ w' ∷ [])
-      new-no-sizes b = record { found = passes _ _ _ (sym fits-is ∙ h) (fails _ _ _ (sym f ∙ b)); left = λ j. z j ∷ y j ∷ [] }
+      new-no-sizes b = record { found = passes _ _ _ (sym (fits-is m w l v) ∙ h) (fails _ _ _ (sym f ∙ b)); left = λ j. z j ∷ y j ∷ [] }
 
       pub new-sizes : r ≡ true → Entered (m ∷ w ∷ []) (new_tests m w narrow wide pool) ready (m' ∷ w' ∷ [])
       unfolding admitted
       new-sizes b =
           record {
-            found = passes _ _ (test (sizes_fit (length narrow) (length wide) (length pool)) BrokenHeap ∷ []) (sym fits-is ∙ h) (passes (sizes_fit (length narrow) (length wide) (length pool)) BrokenHeap [] (sym f ∙ b) refl);
+            found = passes _ _ (test (sizes_fit (length narrow) (length wide) (length pool)) BrokenHeap ∷ []) (sym (fits-is m w l v) ∙ h) (passes (sizes_fit (length narrow) (length wide) (length pool)) BrokenHeap [] (sym f ∙ b) refl);
             left = λ j. z j ∷ y j ∷ [];
           }
 

@@ -13,7 +13,6 @@ use Rattle.pages.proofs.Writing.{slot-length-decimal}
 use Rattle.heap.specs.WellFormed.{sound_slot}
 use Rattle.page_parser.specs.declared.SlotRead.{SlotRead}
 use Rattle.heap.specs.State.{Slot, last_generation, data_of, data_size}
-use Rattle.heap.specs.Packing.{flat}
 use Rattle.pages.specs.Form.{writes_width}
 use Rattle.pages.specs.Inner.Columns.{slot}
 use Rattle.page_parser.specs.declared.SlotLines.{SlotLines}
@@ -21,6 +20,7 @@ use Rattle.page_parser.specs.Inner.Answer.{slot_answer, slots_answer, slots_more
 use Rattle.page_parser.specs.Inner.Slots.{slots_at, past_slots}
 use Rattle.text.specs.Reading.{give, Reader, ◌>>=◌, digit_of, read_field, read_hex}
 use Rattle.pages.specs.Reading.{slot_format, fields_of}
+use Rattle.std.specs.List.{concat}
 use mathlib.Core.List.{List, [], ◌∷◌}
 use mathlib.Core.Option as maybe
 use mathlib.Core.Option.{none, some}
@@ -100,8 +100,7 @@ line-there s g k t p w n f bs o e l h =
 -- MANY LINES
 
 pub data-cons : (y : Slot) (l : List Slot) → data_size (y ∷ l) ≡ length y.bytes + data_size l
-unfolding flat
-data-cons y l = length-append y.bytes (flat (data_of l))
+data-cons y l = length-append y.bytes (concat (data_of l))
 
 pub slots-begin : (len : ℕ) (o : maybe.Option (List Slot × List ℕ)) → slots_answer len o ≡ slots_more len true 0 o
 slots-begin len none = refl
@@ -130,7 +129,7 @@ slots-step len ok size x (some r) = λ i.
     ((let v : size + data_size (x ∷ r.0) ≡ size + length x.bytes + data_size r.0 = omega (arith, data-cons x r.0) in v) i) (len - length r.1))
 
 pub slots_end : (s : List ℕ) (ok : Bool) (size k : ℕ) (o : maybe.Option (List Slot × List ℕ)) → k ≤ length s → o ≡ give [] (drop k s) → Some (lines_of ok size k) ≡ slots_more (length s) ok size o
-unfolding flat all
+unfolding all
 slots_end s ok size k o h e =
     rw e (λ i. Some (lines_of (sym (and-true ok) i) ((let v : size ≡ size + 0 = omega arith in v) i) ((let v : k ≡ length s - length (drop k s) = omega (arith, length-drop k s) in v) i)))
 

@@ -8,8 +8,8 @@ use lib.ListN.{length, get_or, length-map, length-append, get_or-map, get_or-eq_
 use native.Mathlib.Omega.{arith}
 use native.Mathlib.Decide.{dec_lt}
 use borrow.Author.Tests.{ltb-true, not-true}
-use Rattle.std.specs.Prelude.{if◌then◌else◌}
-use Rattle.word.specs.Lists.{all, all_below, filter}
+use Rattle.std.specs.Prelude.{if◌then◌else◌, filter}
+use Rattle.word.specs.Lists.{all, all_below}
 use Rattle.word.proofs.Bools.{and_both}
 use Rattle.word.proofs.ListLaws.{all-at, all_append}
 use Rattle.text.specs.Put.{put_text}
@@ -21,7 +21,8 @@ use Rattle.heap.proofs.Packing.{get_or-pad}
 use Rattle.heap.proofs.Storing.{get_or-pad-past}
 use Rattle.pages.specs.Page.{moved}
 use Rattle.pages.proofs.Moving.{same-partition}
-use Rattle.page_reader.specs.Inner.Columns.{worn_in, stay_free, retire, Below}
+use Rattle.page_reader.specs.Inner.Columns.{stay_free, retire}
+use Rattle.heap.specs.Inner.Columns.{worn_in, Below}
 
 -- ---- a list parted by a test
 

@@ -1,18 +1,19 @@
 -- Columns filled one slot after another. Assumes nothing.
 use Prim.Native.Nat.{ℕ, suc, ◌+◌, ◌≤◌, ◌<◌, min}
+use Rattle.text.specs.Put.{put_text}
+use Rattle.text.proofs.Putting.{put-length}
+use Rattle.word.proofs.PutLaws.{put_one, put-put}
+use Rattle.heap.specs.State.{Slot, data_of, data_size}
+use Rattle.heap.specs.Packing.{ends}
+use Rattle.pages.proofs.Writing.{blank}
+use Rattle.page_parser.proofs.Reading.{data-cons}
+use Rattle.std.specs.List.{concat}
 use mathlib.Core.List.{List, [], ◌∷◌, ◌++◌, map}
 use mathlib.Core.Path.{◌≡◌, refl, sym, ap, ◌∙◌}
 use lib.ListN.{length, take, get_or, set, length-take, length-map, length-append}
 use lib.Seq.{take-suc}
 use native.Mathlib.Omega.{arith}
 use native.Mathlib.Numerals.{add-one}
-use Rattle.text.specs.Put.{put_text}
-use Rattle.text.proofs.Putting.{put_one, put-length}
-use Rattle.word.proofs.PutLaws.{put-put}
-use Rattle.heap.specs.State.{Slot, data_of, data_size}
-use Rattle.heap.specs.Packing.{flat, ends}
-use Rattle.pages.proofs.Writing.{blank}
-use Rattle.page_parser.proofs.Reading.{data-cons}
 
 -- COLUMNS
 
@@ -43,13 +44,13 @@ column-next f a b l i x e h k q =
     ∙ ap (put_text a 0) (ap (λ (y : ℕ). map f (take i l) ++ (y ∷ [])) q ∙ sym (map-append f (take i l) (get_or l i blank ∷ [])) ∙ ap (map f) (take_more l i h))
 
 ends_snoc : (from : ℕ) (l : List Slot) (x : Slot) → ends from (data_of (l ++ (x ∷ []))) ≡ ends from (data_of l) ++ ((from + data_size l + length x.bytes) ∷ [])
-unfolding ends flat
+unfolding ends
 ends_snoc from [] x = ap (λ (n : ℕ). n ∷ []) (let v : from + length x.bytes ≡ from + 0 + length x.bytes = omega arith in v)
 ends_snoc from (y ∷ l) x =
     ap (λ (t : List ℕ). (from + length y.bytes) ∷ t)
     (ends_snoc (from + length y.bytes) l x
     ∙ ap (λ (n : ℕ). ends (from + length y.bytes) (data_of l) ++ (n ∷ []))
-    (let v : from + length y.bytes + data_size l + length x.bytes ≡ from + data_size (y ∷ l) + length x.bytes = omega (arith, length-append y.bytes (flat (data_of l))) in v))
+    (let v : from + length y.bytes + data_size l + length x.bytes ≡ from + data_size (y ∷ l) + length x.bytes = omega (arith, length-append y.bytes (concat (data_of l))) in v))
 
 pub ends-length : (from : ℕ) (l : List Slot) → length (ends from (data_of l)) ≡ length l
 unfolding ends
@@ -57,7 +58,6 @@ ends-length from [] = refl
 ends-length from (y ∷ l) = ap suc (ends-length (from + length y.bytes) l)
 
 pub data-snoc : (l : List Slot) (x : Slot) → data_size (l ++ (x ∷ [])) ≡ data_size l + length x.bytes
-unfolding flat
 data-snoc [] x = omega (arith, length-append x.bytes [])
 data-snoc (y ∷ l) x = omega (arith, data-snoc l x, data-cons y l, data-cons y (l ++ (x ∷ [])))
 

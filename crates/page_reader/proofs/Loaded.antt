@@ -11,7 +11,7 @@ use Rattle.refusal.specs.declared.Refusal.{Refusal}
 use Rattle.word.specs.Lists.{all}
 use Rattle.word.proofs.ListLaws.{take-zeros}
 use Rattle.heap.specs.State.{Slot, State, slot_at, worn, data_of, data_size}
-use Rattle.heap.specs.Packing.{pad, flat, ends}
+use Rattle.heap.specs.Packing.{pad, ends}
 use Rattle.heap.specs.Lent.{Lent, columns, cut, lent, header_of, stored, slot_count, pool_size}
 use Rattle.heap.specs.WellFormed.{sound}
 use Rattle.heap.specs.declared.Heap.{Heap}
@@ -30,7 +30,7 @@ use Rattle.page_check.specs.Inner.Accepting.{Accepted, Checking}
 use Rattle.page_check.specs.Verdict.{verdict}
 use Rattle.page_check.specs.declared.page.Page.{Page}
 use Rattle.page_parser.specs.declared.Sections.{Sections}
-use Rattle.page_reader.specs.Inner.Columns.{worn_in, stay_free, retire, ages, Below, with_numbers, with_parted, with_lists, NumbersFilled, FreeParted, ListsFilled, Roomy}
+use Rattle.page_reader.specs.Inner.Columns.{stay_free, retire, ages, with_numbers, with_parted, with_lists, NumbersFilled, FreeParted, ListsFilled, Roomy}
 use Rattle.page_reader.specs.Reading.{in_range, read_into}
 use Rattle.heap.specs.Sizes.{sizes_fit}
 use Rattle.heap.proofs.Sizes.{sizes-tested}
@@ -38,6 +38,9 @@ use Rattle.page_reader.proofs.Loading.{padded}
 use Rattle.page_reader.proofs.Brought.{brought-free, brought-retired, retired_count, said-parted, free-below, free-young}
 use Rattle.pages.specs.Reading.{out_of_column, read_page}
 use Rattle.page_reader.specs.Inner.PageRead.{PageRead}
+use Rattle.std.specs.List.{concat}
+use Rattle.word.proofs.ResultLaws.{not-refused, not-ok}
+use Rattle.heap.specs.Inner.Columns.{worn_in, Below}
 use mathlib.Core.List.{List, [], ◌∷◌, ◌++◌, map}
 use mathlib.Core.Bool.{Bool, true, false, not, ◌&&◌}
 use mathlib.Core.Option.{Option, none, some}
@@ -106,7 +109,7 @@ module _ (s : List ℕ) (x : Sections) (narrow wide pool : List ℕ) (c : Sectio
   nil e = c.retired_none (c.retiring ∙ e)
 
   -- the heap as the columns have it
-  as-stored : (b : Bool) (h : State) (f q z t : List ℕ) (p : List ℕ) → f ≡ (moved b h).free → q ≡ h.quarantine → z ≡ h.sealed → t ≡ pad S (moved b h).retired → p ≡ pad (length pool) (flat (data_of h.slots)) →
+  as-stored : (b : Bool) (h : State) (f q z t : List ℕ) (p : List ℕ) → f ≡ (moved b h).free → q ≡ h.quarantine → z ≡ h.sealed → t ≡ pad S (moved b h).retired → p ≡ pad (length pool) (concat (data_of h.slots)) →
       columns (header_of (moved b h)) S (pad S (map (λ (y : Slot). y.generation) h.slots)) (pad S (map (λ (y : Slot). y.kind) h.slots)) (pad S (map (λ (y : Slot). y.type) h.slots))
       (pad S (map (λ (y : Slot). y.start) h.slots)) (pad S (ends 0 (data_of h.slots))) (pad S (map (λ (y : Slot). y.writes) h.slots)) p (pad S f) (pad S q) (pad S z) t []
       ≡ stored S (length pool) (moved b h)
@@ -119,7 +122,7 @@ module _ (s : List ℕ) (x : Sections) (narrow wide pool : List ℕ) (c : Sectio
   pub loaded : {h : Heap} {narrow₁ wide₁ pool₁ narrow₂ wide₂ pool₂ narrow₃ narrow₄ wide₄ : List ℕ} {free retired : ℕ} → h ≡ header_of (brought_in s) →
       narrow₁ ≡ replicate (length narrow) 0 → wide₁ ≡ replicate (length wide) 0 → pool₁ ≡ replicate (length pool) 0 →
       NumbersFilled narrow₁ wide₁ narrow₂ wide₂ (slots_at s x.slots_at x.slots) →
-      pool₂ ≡ put_text pool₁ 0 (flat (data_of (map (out_of_column x.planar) (slots_at s x.slots_at x.slots)))) →
+      pool₂ ≡ put_text pool₁ 0 (concat (data_of (map (out_of_column x.planar) (slots_at s x.slots_at x.slots)))) →
       FreeParted narrow₂ narrow₃ (values_at 32 s x.free_at x.free) free retired →
       ListsFilled narrow₃ wide₂ narrow₄ wide₄ (heap_in s).quarantine (heap_in s).retired (heap_in s).sealed →
       lent h narrow₄ wide₄ pool₂ ≡ stored (length narrow / 6) (length pool) (brought_in s)
@@ -134,7 +137,7 @@ module _ (s : List ℕ) (x : Sections) (narrow wide pool : List ℕ) (c : Sectio
       let count : length narrow₁ / 6 ≡ S = ap (λ (t : List ℕ). length t / 6) en ∙ ap (λ (n : ℕ). n / 6) (length-replicate {A = ℕ} (length narrow) 0) in
       let base : lent h narrow₁ wide₁ pool₂ ≡ columns h S (replicate S 0) (replicate S 0) (replicate S 0) (replicate S 0) (replicate S 0) (replicate S 0) pool₂ (replicate S 0) (replicate S 0) (replicate S 0) (replicate S 0) [] =
       (λ j. cut h (count j) (n₁ j) (w₁ j) pool₂) ∙ cleared h S pool₂ in
-      let p₂ : pool₂ ≡ pad (length pool) (flat (data_of ss)) = ed ∙ padded (length pool) pool₁ (flat (data_of (map (out_of_column x.planar) (slots_at s x.slots_at x.slots)))) ep ∙ ap (λ (l : List Slot). pad (length pool) (flat (data_of l))) c.slots_are in
+      let p₂ : pool₂ ≡ pad (length pool) (concat (data_of ss)) = ed ∙ padded (length pool) pool₁ (concat (data_of (map (out_of_column x.planar) (slots_at s x.slots_at x.slots)))) ep ∙ ap (λ (l : List Slot). pad (length pool) (concat (data_of l))) c.slots_are in
       let gs : List ℕ = put_text (replicate S 0) 0 (map (λ (y : Slot). y.generation) ss) in
       let aged : gs ≡ pad S (map (λ (y : Slot). y.generation) ss) = zero-pad S (map (λ (y : Slot). y.generation) ss) in
       lf.lists h pool₂
@@ -234,18 +237,15 @@ pub record Passed (r : Bool) (S P : ℕ) (o : Option (Form × State)) (h : State
   pub room : data_size h.slots ≤ P
   pub slots : length h.slots ≤ S
 
-pub not-ok : {A : Type 0} {a : A} (n : ℕ) → refused n ≡ ok a → ⊥
-not-ok n e = let z : ◌≡◌ {A = ℕ} 0 1 = cc in omega arith
-
 pub passed : (r : Bool) (S P : ℕ) (o : Option (Form × State)) (h : State) → verdict r S P o ≡ ok h → Passed r S P o h
 unfolding verdict
-passed r S P none h v = absurd (not-ok 17 v)
+passed r S P none h v = not-refused {n = 17} v
 passed r S P (some p) h v = go (r && sound (brought p)) refl (ltb P (data_size (brought p).slots)) refl (ltb S (length (brought p).slots)) refl v
   where
     go : (a : Bool) → (r && sound (brought p)) ≡ a → (b : Bool) → ltb P (data_size (brought p).slots) ≡ b → (d : Bool) → ltb S (length (brought p).slots) ≡ d → verdict r S P (some p) ≡ ok h → Passed r S P (some p) h
-    go false ea b eb d ed u = absurd (not-ok 1 (rw ea at u))
-    go true ea true eb d ed u = absurd (not-ok 6 (rw (ea, eb) at u))
-    go true ea false eb true ed u = absurd (not-ok 5 (rw (ea, eb, ed) at u))
+    go false ea b eb d ed u = not-refused {n = 1} (rw ea at u)
+    go true ea true eb d ed u = not-refused {n = 6} (rw (ea, eb) at u)
+    go true ea false eb true ed u = not-refused {n = 5} (rw (ea, eb, ed) at u)
     go true ea false eb false ed u =
         let q : ok (brought p) ≡ ok h = rw (ea, eb, ed) at u in
         let e : brought p ≡ h = cc in
@@ -262,7 +262,7 @@ few-numbers t S P (some p) n e = go (t && sound (brought p)) refl (ltb P (data_s
     go false ea b eb d ed u = let q : ◌≡◌ {A = Result State} (refused 1) (refused n) = rw ea at u in let z : 1 ≡ n = cc in omega arith
     go true ea true eb d ed u = let q : ◌≡◌ {A = Result State} (refused 6) (refused n) = rw (ea, eb) at u in let z : 6 ≡ n = cc in omega arith
     go true ea false eb true ed u = let q : ◌≡◌ {A = Result State} (refused 5) (refused n) = rw (ea, eb, ed) at u in let z : 5 ≡ n = cc in omega arith
-    go true ea false eb false ed u = let q : ◌≡◌ {A = Result State} (ok (brought p)) (refused n) = rw (ea, eb, ed) at u in absurd (not-ok n (sym q))
+    go true ea false eb false ed u = let q : ◌≡◌ {A = Result State} (ok (brought p)) (refused n) = rw (ea, eb, ed) at u in not-ok q
 
 pub is-page : (s : List ℕ) (v : Result State) (p : Page) {r : code.Result Page Refusal} → Checking s v r → r ≡ Ok p → (p.text.now ≡ s) × Accepted s v p.sections
 is-page s v p c e = subst (Checking s v) e c

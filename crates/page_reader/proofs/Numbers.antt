@@ -7,7 +7,7 @@ use Rattle.text.specs.Format.{read_all}
 use Rattle.text.specs.Put.{put_text}
 use Rattle.text.proofs.Putting.{put-nothing}
 use Rattle.heap.specs.State.{Slot, data_size}
-use Rattle.heap.specs.Packing.{flat, ends}
+use Rattle.heap.specs.Packing.{ends}
 use Rattle.heap.specs.Lent.{Lent, columns, cut}
 use Rattle.heap.specs.declared.Heap.{Heap}
 use Rattle.heap.proofs.Runs.{recount, with-generation, with-kind, with-type, with-end, with-writes, set-generation, set-kind, set-type, set-start, set-end, set-writes}
@@ -71,7 +71,7 @@ pub record Filling (s : List ℕ) (at count : ℕ) (narrow₀ wide₀ narrow wid
 
 pub filling-begin : (s : List ℕ) (at count : ℕ) (narrow wide : List ℕ) → SlotsParsed s at count → at ≤ length s → count ≤ length narrow / 6 → 4 * (length narrow / 6) ≤ length wide →
     Filling s at count narrow wide narrow wide at 0 0
-unfolding flat ends
+unfolding ends
 filling-begin s at count narrow wide p h r q = record {
   low = omega arith;
   inside = h;

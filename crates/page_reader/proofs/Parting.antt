@@ -1,9 +1,8 @@
 -- The free list of a page, put into its run slot by slot; the worn-out slots go to the run of the retired. Assumes nothing.
 use Prim.Native.Nat.{ℕ, ◌+◌, ◌-◌, ◌*◌, ◌/◌, ◌^◌, ◌≤◌, ◌<◌}
-use Rattle.std.specs.Prelude.{if◌then◌else◌, Option, Some, None}
+use Rattle.std.specs.Prelude.{if◌then◌else◌, Option, Some, None, filter}
 use Rattle.word.specs.Run.{run}
 use Rattle.word.proofs.RunLaws.{length_run, first-get}
-use Rattle.word.specs.Lists.{filter}
 use Rattle.text.specs.Format.{number, read_all}
 use Rattle.text.specs.Inner.Answer.{value_answer}
 use Rattle.text.specs.Put.{put_text}
@@ -11,14 +10,15 @@ use Rattle.text.proofs.Putting.{put-nothing}
 use Rattle.heap.specs.State.{last_generation}
 use Rattle.heap.specs.Lent.{Lent, columns, cut}
 use Rattle.heap.specs.declared.Heap.{Heap}
-use Rattle.heap.proofs.Recycled.{filter-append}
 use Rattle.heap.proofs.Runs.{recount, set-free, set-retired}
 use Rattle.page_parser.specs.Inner.Values.{values_at, past_values, ValuesParsed}
 use Rattle.page_parser.proofs.Lists.{value_found, value_none}
 use Rattle.page_parser.proofs.Remaining.{read_next, read_some, read-end}
-use Rattle.page_reader.specs.Inner.Columns.{worn_in, stay_free, retire, with_parted, Below, PutIn, ages, FreeParted}
+use Rattle.page_reader.specs.Inner.Columns.{stay_free, retire, with_parted, PutIn, ages, FreeParted}
 use Rattle.page_reader.proofs.Filled.{col-next}
 use Rattle.text.specs.Reading.{give, read_field}
+use Rattle.std.proofs.lemmas.List.Elements.{filter-append}
+use Rattle.heap.specs.Inner.Columns.{worn_in, Below}
 use mathlib.Core.Bool.{Bool, true, false, not}
 use mathlib.Core.List.{List, [], ◌∷◌, ◌++◌, append-nil}
 use mathlib.Core.Path.{◌≡◌, refl, sym, ap, ◌∙◌}

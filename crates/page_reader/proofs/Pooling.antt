@@ -8,7 +8,6 @@ use Rattle.text.specs.Put.{put_text}
 use Rattle.text.proofs.Laws.{hex-forth, hex-length}
 use Rattle.text.proofs.Putting.{puts-puts, puts-at, puts_none}
 use Rattle.heap.specs.State.{Slot, data_of, data_size}
-use Rattle.heap.specs.Packing.{flat}
 use Rattle.pages.specs.Inner.Columns.{field}
 use Rattle.pages.proofs.Laws.{slot-right, slot-prints}
 use Rattle.pages.proofs.Writing.{blank, slot-parts}
@@ -22,6 +21,8 @@ use Rattle.page_reader.proofs.Filled.{take_more, data-next}
 use Rattle.text.specs.Reading.{give, read_hex}
 use Rattle.text.specs.Inner.Puts.{Puts}
 use Rattle.pages.specs.Reading.{from_column, slot_format, out_of_column}
+use Rattle.text.proofs.Copying.{hex-is}
+use Rattle.std.specs.List.{concat}
 use mathlib.Core.List.{List, [], ◌∷◌, ◌++◌, append_assoc, map, map-append}
 use mathlib.Core.Bool.{Bool, true, false}
 use mathlib.Core.Path.{◌≡◌, refl, sym, ap, ◌∙◌}
@@ -29,10 +30,6 @@ use lib.ListN.{length, take, drop, get_or, length-drop, length-append}
 use lib.Seq.{take_all, drop-append_seam, drop-drop}
 use native.Mathlib.Omega.{arith}
 use native.Mathlib.Nat.{sub-zero}
-
-hex-is : (s : List ℕ) (at : ℕ) (bs rest : List ℕ) → read_hex (drop at s) ≡ give bs rest → hex_at s at ≡ bs
-unfolding hex_at
-hex-is s at bs rest e = rw (e, hex_at)
 
 -- where a line's data stands: before the line's end, two digits a byte
 module _ (s : List ℕ) (k : ℕ) (x : SlotRead) (f : Found true s k x) (h : k ≤ length s) where
@@ -74,17 +71,15 @@ module _ (s : List ℕ) (k : ℕ) (x : SlotRead) (f : Found true s k x) (h : k �
   pub data-parsed : HexParsed s (x.next - 1 - x.bytes - x.bytes)
   data-parsed = record { rest = drop x.next s; reads = data_reads ∙ ap (λ (b : List ℕ). give b (drop x.next s)) (sym data_is) }
 
-flat-snoc : (l : List Slot) (y : Slot) → flat (data_of (l ++ (y ∷ []))) ≡ flat (data_of l) ++ y.bytes
-unfolding flat
+flat-snoc : (l : List Slot) (y : Slot) → concat (data_of (l ++ (y ∷ []))) ≡ concat (data_of l) ++ y.bytes
 flat-snoc [] y = mathlib.Core.List.append-nil y.bytes
-flat-snoc (z ∷ l) y = ap (λ (t : List ℕ). z.bytes ++ t) (flat-snoc l y) ∙ sym (append_assoc z.bytes (flat (data_of l)) y.bytes)
+flat-snoc (z ∷ l) y = ap (λ (t : List ℕ). z.bytes ++ t) (flat-snoc l y) ∙ sym (append_assoc z.bytes (concat (data_of l)) y.bytes)
 
 data-inside : (l : List Slot) (i : ℕ) → data_size (take i l) ≤ data_size l
-unfolding flat
 data-inside [] Prim.Native.Nat.zero = omega arith
 data-inside [] (Prim.Native.Nat.suc i) = omega arith
 data-inside (z ∷ l) Prim.Native.Nat.zero = omega arith
-data-inside (z ∷ l) (Prim.Native.Nat.suc i) = omega (arith, data-inside l i, length-append z.bytes (flat (data_of l)), length-append z.bytes (flat (data_of (take i l))))
+data-inside (z ∷ l) (Prim.Native.Nat.suc i) = omega (arith, data-inside l i, length-append z.bytes (concat (data_of l)), length-append z.bytes (concat (data_of (take i l))))
 
 -- the data of i slots is in the pool up to `to`, and the lines of the others stand in the text from k on
 pub record Pooling (c : Bool) (s : List ℕ) (at count : ℕ) (pool₀ pool : List ℕ) (k to i : ℕ) : Type 0 where
@@ -92,13 +87,13 @@ pub record Pooling (c : Bool) (s : List ℕ) (at count : ℕ) (pool₀ pool : Li
   pub inside : k ≤ length s
   pub room : data_size (slots_at s at count) ≤ length pool₀
   pub same : length pool ≡ length pool₀
-  pub put : Puts pool₀ pool 0 to (flat (data_of (map (out_of_column c) (take i (slots_at s at count)))))
+  pub put : Puts pool₀ pool 0 to (concat (data_of (map (out_of_column c) (take i (slots_at s at count)))))
   pub rest : List ℕ
   pub left : read_all (slot_format true).read (count - i) (drop k s) ≡ give (drop i (slots_at s at count)) rest
 
 pub pooling-begin : (c : Bool) (s : List ℕ) (at count : ℕ) (pool : List ℕ) → SlotsParsed s at count → at ≤ length s → data_size (slots_at s at count) ≤ length pool →
     Pooling c s at count pool pool at 0 0
-unfolding flat map
+unfolding map
 pooling-begin c s at count pool p h r = record {
   low = omega arith;
   inside = h;
@@ -155,16 +150,16 @@ module _ (c : Bool) (s : List ℕ) (at count : ℕ) (pool₀ pool : List ℕ) (k
         same = m ∙ p.same;
         put =
             puts-at (puts-puts p.put q (omega arith)) refl
-            (ap (λ (b : List ℕ). flat (data_of (map (out_of_column c) (take i (slots_at s at count)))) ++ from_column c b) (data_is s k x found p.inside ∙ ap (λ (y : Slot). y.bytes) next.1)
+            (ap (λ (b : List ℕ). concat (data_of (map (out_of_column c) (take i (slots_at s at count)))) ++ from_column c b) (data_is s k x found p.inside ∙ ap (λ (y : Slot). y.bytes) next.1)
             ∙ sym (flat-snoc (map (out_of_column c) (take i (slots_at s at count))) (out_of_column c (get_or (slots_at s at count) i blank)))
-            ∙ ap (λ (l : List Slot). flat (data_of l)) (sym (map-append (out_of_column c) (take i (slots_at s at count)) (get_or (slots_at s at count) i blank ∷ [])))
-            ∙ ap (λ (l : List Slot). flat (data_of (map (out_of_column c) l))) (take_more (slots_at s at count) i next.0));
+            ∙ ap (λ (l : List Slot). concat (data_of l)) (sym (map-append (out_of_column c) (take i (slots_at s at count)) (get_or (slots_at s at count) i blank ∷ [])))
+            ∙ ap (λ (l : List Slot). concat (data_of (map (out_of_column c) l))) (take_more (slots_at s at count) i next.0));
         rest = p.rest;
         left = next.2;
       }
 
-  pub pooling-end : count ≤ i → pool ≡ put_text pool₀ 0 (flat (data_of (map (out_of_column c) (slots_at s at count))))
+  pub pooling-end : count ≤ i → pool ≡ put_text pool₀ 0 (concat (data_of (map (out_of_column c) (slots_at s at count))))
   pooling-end h =
       p.put.out
-      ∙ ap (λ (l : List Slot). put_text pool₀ 0 (flat (data_of (map (out_of_column c) l))))
+      ∙ ap (λ (l : List Slot). put_text pool₀ 0 (concat (data_of (map (out_of_column c) l))))
       (take_all i (slots_at s at count) (read-end (slot_format true).read blank (drop k s) (slots_at s at count) i count p.rest h p.left))

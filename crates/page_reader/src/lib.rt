@@ -6,16 +6,17 @@ ghost use Rattle.text.specs.Put.{put_text};
 ghost use Rattle.text.specs.Inner.Answer.{hex_at};
 ghost use Rattle.pages.specs.Form.{writes_width};
 ghost use Rattle.heap.specs.State.{data_of, data_size};
-ghost use Rattle.heap.specs.Packing.{flat};
 ghost use Rattle.page_parser.specs.Inner.Values.{values_at, ValuesParsed};
 ghost use Rattle.page_parser.specs.Inner.Slots.{slots_at};
 ghost use Rattle.heap.specs.Lent.{lent, header_of, stored};
 ghost use Rattle.page_parser.specs.Contents.{heap_in};
 ghost use Rattle.page_parser.specs.Inner.Sections.{brought_in};
-ghost use Rattle.page_reader.specs.Inner.Columns.{NumbersFilled, Below, PutIn, FreeParted, ListsFilled, Roomy};
+ghost use Rattle.page_reader.specs.Inner.Columns.{NumbersFilled, PutIn, FreeParted, ListsFilled, Roomy};
 ghost use Rattle.text.specs.Inner.Puts.{Puts};
 ghost use Rattle.pages.specs.Reading.{from_column, out_of_column};
 ghost use Rattle.page_reader.specs.Inner.PageRead.{PageRead};
+ghost use Rattle.std.specs.List.{concat};
+ghost use Rattle.heap.specs.Inner.Columns.{Below};
 
 use heap::{Changed, Heap};
 use page_check::page::Page;
@@ -40,7 +41,7 @@ fn fill_column(hex: Hex, planar: bool, pool: &mut [u8], to: usize) -> usize
 fn fill_slots(lines: Lines, planar: bool, narrow: &mut [u32], wide: &mut [u64], pool: &mut [u8])
     requires { (lines.count ≤ length narrow.old / 6) × (4 * (length narrow.old / 6) ≤ length wide.old) × (data_size (slots_at lines.text.now lines.at lines.count) ≤ length pool.old) }
     ensures numbers { NumbersFilled narrow.old wide.old narrow.new wide.new (slots_at lines.entry.text.now lines.entry.at lines.entry.count) }
-    ensures bytes { pool.new ≡ put_text pool.old 0 (flat (data_of (map (out_of_column planar) (slots_at lines.entry.text.now lines.entry.at lines.entry.count)))) }
+    ensures bytes { pool.new ≡ put_text pool.old 0 (concat (data_of (map (out_of_column planar) (slots_at lines.entry.text.now lines.entry.at lines.entry.count)))) }
 {
     let Lines { text: s, at, count } = lines;
     let all = narrow.len() / 6;

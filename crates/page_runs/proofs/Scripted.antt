@@ -1,13 +1,5 @@
 -- A script that is run through the front door: it is not turned away, and what it leaves is well formed. Assumes nothing.
 use Prim.Native.Nat.{ℕ}
-use mathlib.Core.Bool.{Bool, true, false, ◌&&◌}
-use mathlib.Core.List.{List, [], ◌∷◌}
-use mathlib.Core.Option.{Option, none, some}
-use mathlib.Core.Path.{◌≡◌, refl, sym, ap, ◌∙◌, subst}
-use native.Mathlib.Omega.{arith}
-use lib.Dec.{leb}
-use lib.ListN.{length}
-use borrow.Author.Tests.{le-leb, leb-true}
 use Rattle.word.specs.Result.{Result, ok, refused}
 use Rattle.word.proofs.Bools.{and_both, both-and}
 use Rattle.refusal.specs.Told.{refused_by, answered, nothing}
@@ -18,16 +10,14 @@ use Rattle.heap.specs.Lent.{Lent, stored, view, slot_count, pool_size}
 use Rattle.heap.specs.WellFormed.{well_formed}
 use Rattle.heap.specs.Calls.{Changed, refuse, done, resolve, on_slot, take_slot, free}
 use Rattle.heap.proofs.Sound.{Sound}
-use Rattle.heap.proofs.Storing.{view-stored, well-stored}
+use Rattle.heap.proofs.Storing.{view-stored, well-stored, stored-count, stored-room}
 use Rattle.heap.proofs.Testing.{formed-tested, formed-test}
 use Rattle.heap.proofs.Keeping.{take-sound}
 use Rattle.heap.proofs.Recycled.{recycle-sound}
 use Rattle.heap_calls.proofs.Allocating.{alloc-sound}
-use Rattle.heap_calls.specs.Pins.{rising_from}
-use Rattle.heap_edit.proofs.Soundness.{seal-sound, resolved_live}
-use Rattle.door.specs.HeapCalls.{Outcome, outcome_of, enough, admitted}
+use Rattle.heap_edit.proofs.Soundness.{seal-sound}
+use Rattle.door.specs.HeapCalls.{Outcome, outcome_of, enough, admitted, ready}
 use Rattle.std.specs.Prelude.{Ok, Err}
-use Rattle.door.specs.HeapCalls.{ready}
 use Rattle.door.proofs.Entering.{is-enough, calling-not, calling-ready}
 use Rattle.object_door.specs.ObjectCalls.{is_kind, allocating, recycling}
 use Rattle.script.specs.Script.{lines, is_call, first_is_call, begins_call, silent, doing, line_does, unless, run_lines, run_script}
@@ -35,10 +25,19 @@ use Rattle.script.specs.Calls.{Call, alloc, take, seal, recycle}
 use Rattle.script.specs.Reading.{call_of}
 use Rattle.script.proofs.Refusing.{Numbered, alloc-numbered, free-numbered}
 use Rattle.run_door.specs.Run.{run_tests, run_call}
-use Rattle.heap.proofs.Storing.{stored-count, stored-room}
 use Rattle.page_runs.specs.declared.Run.{Run}
 use Rattle.page_runs.specs.Inner.Steps.{Ran}
 use Rattle.page_runs.specs.Steps.{Lies, Good}
+use Rattle.word.specs.Lists.{rising_from}
+use Rattle.heap.proofs.LiveSlots.{resolved_live}
+use mathlib.Core.Bool.{Bool, true, false, ◌&&◌}
+use mathlib.Core.List.{List, [], ◌∷◌}
+use mathlib.Core.Option.{Option, none, some}
+use mathlib.Core.Path.{◌≡◌, refl, sym, ap, ◌∙◌, subst}
+use native.Mathlib.Omega.{arith}
+use lib.Dec.{leb}
+use lib.ListN.{length}
+use borrow.Author.Tests.{le-leb, leb-true}
 
 -- ---- a call keeps the heap sound, and is not refused with 0
 

@@ -1,20 +1,11 @@
 -- A run at its start, and the names line. Assumes nothing.
 use Prim.Native.Nat.{ℕ, ◌+◌, ◌-◌, ◌/◌, ◌≤◌}
-use mathlib.Core.Bool.{true, false}
-use mathlib.Core.List.{List, [], ◌++◌}
-use mathlib.Core.Option as maybe
-use mathlib.Core.Option.{none, some}
-use mathlib.Core.Path.{◌≡◌, refl, sym, ap, ◌∙◌, subst}
-use native.Mathlib.Omega.{arith}
-use lib.ListN.{length, take, drop}
-use lib.Seq.{take-add, length-take-le, drop_at}
 use Rattle.text.specs.Text.{ascii, read_literal}
 use Rattle.text.specs.Inner.Answer.{literal_answer}
 use Rattle.std.specs.Prelude.{Option, is_some}
 use Rattle.text.proofs.Laws.{literal-back}
 use Rattle.refusal.specs.declared.Answer.{Answer}
 use Rattle.heap.specs.State.{data_of}
-use Rattle.heap.specs.Packing.{flat}
 use Rattle.heap.specs.Sizes.{sizes_fit}
 use Rattle.heap.specs.Lent.{Lent, lent, stored, view, slot_count, pool_size}
 use Rattle.heap.specs.WellFormed.{well_formed}
@@ -33,6 +24,15 @@ use Rattle.page_runs.specs.Inner.Steps.{is_there, over_with}
 use Rattle.page_runs.specs.Steps.{text_left, Lies, Good, Begun, Goes}
 use Rattle.page_runs.proofs.Naming.{literal-on, literal-never}
 use Rattle.page_runs.proofs.Holding.{stands}
+use Rattle.std.specs.List.{concat}
+use mathlib.Core.Bool.{true, false}
+use mathlib.Core.List.{List, [], ◌++◌}
+use mathlib.Core.Option as maybe
+use mathlib.Core.Option.{none, some}
+use mathlib.Core.Path.{◌≡◌, refl, sym, ap, ◌∙◌, subst}
+use native.Mathlib.Omega.{arith}
+use lib.ListN.{length, take, drop}
+use lib.Seq.{take-add, length-take-le, drop_at}
 
 -- ---- a new heap
 
@@ -41,8 +41,8 @@ unfolding sizes_fit
 fits-there = refl
 
 new-pool : (S : ℕ) → pool_size (stored S 4096 (new 1)) ≡ 4096
-unfolding stored new flat
-new-pool S = length-pad 4096 (flat (data_of [])) (omega arith)
+unfolding stored new
+new-pool S = length-pad 4096 (concat (data_of [])) (omega arith)
 
 module _ (m w n v p : List ℕ) (lm : length m ≡ 64) (lw : length w ≡ 64) (ln : length n ≡ 384) (lv : length v ≡ 256) (lp : length p ≡ 4096) where
   enough-there : enough m w (lent no_header n v p) ≡ true

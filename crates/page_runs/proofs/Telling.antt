@@ -1,32 +1,18 @@
 -- What is printed at the end. Assumes nothing.
 use Prim.Native.Nat.{ℕ, ◌+◌, ◌^◌, ◌≤◌, ◌<◌}
-use mathlib.Core.Bool.{Bool, true, false}
-use mathlib.Core.List.{List, [], ◌∷◌, ◌++◌}
-use mathlib.Core.Option.{Option}
-use mathlib.Core.Path.{◌≡◌, sym, ap, ◌∙◌, subst}
-use native.Mathlib.Omega.{arith}
-use native.Mathlib.Nat.{zero-add}
-use lib.ListN.{length, take, length-append, length-take}
-use lib.Dec.{leb}
-use lib.Seq.{take_all}
-use borrow.Author.Tests.{le-leb}
-use Rattle.std.specs.Prelude.{if◌then◌else◌}
-use Rattle.std.specs.Prelude.{Result as Outcome, Ok, Err}
+use Rattle.std.specs.Prelude.{if◌then◌else◌, Result as Outcome, Ok, Err}
 use Rattle.word.specs.Result.{Result, ok, refused}
 use Rattle.heap.specs.Calls.{done}
-use Rattle.word.proofs.PutLaws.{take_put}
 use Rattle.text.specs.Text.{newline, decimal, line}
 use Rattle.text.specs.Put.{put_text}
 use Rattle.text.specs.Inner.Puts.{Puts}
 use Rattle.text.proofs.Laws.{digits-few}
-use Rattle.text.proofs.Putting.{puts-puts}
+use Rattle.text.proofs.Putting.{puts-puts, taken_back}
 use Rattle.refusal.specs.Told.{answered, here, nothing}
 use Rattle.refusal.specs.declared.Answer.{Answer}
 use Rattle.heap.specs.State.{State}
 use Rattle.heap.specs.Lent.{Lent, view}
-use Rattle.door.specs.HeapCalls.{Asked, asked, admitted, heap_tests, whether}
-use Rattle.door.specs.HeapCalls.{Entry}
-use Rattle.door.specs.HeapCalls.{ready}
+use Rattle.door.specs.HeapCalls.{Asked, asked, admitted, heap_tests, whether, Entry, ready}
 use Rattle.door.proofs.Entering.{is-enough, asking-ready}
 use Rattle.pages.specs.Form.{written}
 use Rattle.pages.specs.Page.{value_line, page_text}
@@ -43,9 +29,15 @@ use Rattle.page_runs.specs.Inner.Steps.{Ran, Says}
 use Rattle.page_runs.specs.Steps.{text_left, Lies, Short, Ends}
 use Rattle.page_runs.proofs.Naming.{literal-short}
 use Rattle.page_runs.proofs.Starting.{names-length}
-
-taken_back : (out t : List ℕ) → take (length t) (put_text out 0 t) ≡ t
-taken_back out t = ap (λ (n : ℕ). take n (put_text out 0 t)) (sym (zero-add (length t))) ∙ take_put out 0 t (length t) (omega arith) (omega arith) ∙ take_all (length t) t (omega arith)
+use mathlib.Core.Bool.{Bool, true, false}
+use mathlib.Core.List.{List, [], ◌∷◌, ◌++◌}
+use mathlib.Core.Option.{Option}
+use mathlib.Core.Path.{◌≡◌, sym, ap, ◌∙◌, subst}
+use native.Mathlib.Omega.{arith}
+use native.Mathlib.Nat.{zero-add}
+use lib.ListN.{length, take, length-append, length-take}
+use lib.Dec.{leb}
+use borrow.Author.Tests.{le-leb}
 
 -- a text at the start of the output
 pub ends-put : (a : List ℕ) {b : List ℕ} {r : ℕ} (t : List ℕ) → length t ≤ 14592 → r ≡ length t → b ≡ put_text a 0 t → Ends t b r

@@ -1,12 +1,5 @@
 -- A page takes at most 256 + 96 × slots + 2 × data bytes, in every form: a live slot's line has at most 67 bytes beside its data, a dead one's 20 and its entry in a list 11, a seal 21.
 use Prim.Native.Nat.{ℕ, zero, suc, ◌+◌, ◌*◌, ◌%◌, ◌^◌, ◌≤◌, ◌<◌}
-use mathlib.Core.List.{List, [], ◌∷◌, ◌++◌, flat_map}
-use mathlib.Core.Bool.{Bool, true, false, ◌&&◌}
-use mathlib.Core.Path.{◌≡◌, refl, ap, ◌∙◌}
-use lib.ListN.{length, get_or, length-append}
-use native.Mathlib.Omega.{arith}
-use lib.Dec.{eqb, leb}
-use borrow.Author.Tests.{lt-ltb, le-ltb, leb-true}
 use Rattle.text.specs.Text.{ascii, decimal, line, All}
 use Rattle.text.proofs.Laws.{decimal-length, decimal-length-one, digits-few}
 use Rattle.word.specs.Lists.{all}
@@ -17,11 +10,18 @@ use Rattle.heap.proofs.Sound.{SlotSound}
 use Rattle.heap.proofs.Testing.{parts-tested, slot-tested}
 use Rattle.heap.specs.State.{Slot, State, no_slot, data_of, data_size, times, slot_at, live, bit}
 use Rattle.heap.specs.Calls.{live_count}
-use Rattle.heap.specs.Packing.{flat}
 use Rattle.heap.specs.WellFormed.{partitioned, sound_slot, retired_rightly, sound_seals, sound_reclaim, sound}
 use Rattle.pages.specs.Form.{Form, form_of, writes_width, heap_front, retired_too, no_retired, heap_names, slot_front, wide_writes, narrow_writes, planes_name, data_name, slot_names, free_name, quarantine_name, sealed_name, retired_name}
 use Rattle.pages.proofs.Writing.{column-hex, same_lines}
 use Rattle.pages.specs.Page.{slot_line, value_line, numbers_line, heap_line, retired_part, page_text, SlotWithin, RetiredWithin, Within}
+use Rattle.std.specs.List.{concat}
+use mathlib.Core.List.{List, [], ◌∷◌, ◌++◌, flat_map}
+use mathlib.Core.Bool.{Bool, true, false, ◌&&◌}
+use mathlib.Core.Path.{◌≡◌, refl, ap, ◌∙◌}
+use lib.ListN.{length, get_or, length-append}
+use native.Mathlib.Omega.{arith}
+use lib.Dec.{eqb, leb}
+use borrow.Author.Tests.{lt-ltb, le-ltb, leb-true}
 
 -- numbers of each width
 short : (n : ℕ) → n < 2 ^ 8 → length (decimal n) ≤ 3
@@ -59,11 +59,11 @@ slot-line p w s g f = one s.kind refl
     one (suc k) e = omega (arith, ap bit (lt-ltb 0 s.kind (omega arith)), live-line p w s g f.kinds)
 
 slot-lines : (p w : Bool) (l : List Slot) → All (SlotWithin w) l → all sound_slot l ≡ true → length (flat_map (slot_line p) l) ≤ 20 * length l + 47 * live_count l + 2 * data_size l
-unfolding flat_map flat all live_count
+unfolding flat_map all live_count
 slot-lines p w [] h e = omega arith
 slot-lines p w (s ∷ l) h e =
     let q = and_both (sound_slot s) (all sound_slot l) e in
-    rw (length-append (slot_line p s) (flat_map (slot_line p) l), length-append s.bytes (flat (data_of l)))
+    rw (length-append (slot_line p s) (flat_map (slot_line p) l), length-append s.bytes (concat (data_of l)))
     (omega (arith, slot-line p w s h.0 (slot-tested s q.0), slot-lines p w l h.1 q.1))
 
 value-length : (n k : ℕ) → length (decimal n) ≤ k → length (value_line n) ≤ k + 1

@@ -1,5 +1,16 @@
 -- The laws of the page.
 use Prim.Native.Nat.{ℕ, ◌^◌, ◌≤◌, ◌<◌}
+use Rattle.text.specs.Text.{ascii, line, newline, comma, Bytes, read_literal, All}
+use Rattle.text.specs.Reading.{give, ◌>>=◌, digit_of}
+use Rattle.text.specs.Format.{number, bytes_line, after_literal, either, always, pair, times, mapped, read_all}
+use Rattle.text.specs.Inner.Right.{Right}
+use Rattle.text.proofs.Laws.{none-not-some, bind-some, some_inj, number-right, bytes-line-right, after-literal-right, Any, Apart, either-right, always-right, pair-right, times-right, mapped-where, mapped-right, injective, Listed}
+use Rattle.heap.specs.State.{Slot, State, slot_at, worn}
+use Rattle.std.specs.Prelude.{if◌then◌else◌, filter}
+use Rattle.planes.proofs.Laws.{bytes-planes, bytes-restored, restored-planes, planes-restored}
+use Rattle.pages.specs.Form.{Form, form_of, written, writes_width, heap_front, retired_too, no_retired, heap_names, slot_front, wide_writes, narrow_writes, planes_name, data_name, slot_names, free_name, quarantine_name, sealed_name, retired_name}
+use Rattle.pages.specs.Reading.{slot_named, names, Fields, slot_of, fields_of, slot_format, with_bytes, in_column, out_of_column, slots_format, Counts, Head, sealed_end, retired_count, head_format, retired_format, Body, body_format, Parts, page_format, state_of, read_of, counts_of, head_of, body_of, saved, whole, read_page}
+use Rattle.pages.specs.Page.{slot_line, value_line, numbers_line, heap_line, retired_part, page_text, SlotWithin, RetiredWithin, Within, Unsaved, moved}
 use mathlib.Core.Bool.{Bool, true, false, not}
 use mathlib.Core.List.{List, [], ◌∷◌, ◌++◌, append_assoc, append-nil, map, flat_map}
 use mathlib.Core.Option.{none, some}
@@ -7,18 +18,6 @@ use mathlib.Core.Path.{◌≡◌, refl, sym, ap, ap₂, subst, ◌∙◌}
 use mathlib.Core.Logic.{◌↔◌}
 use native.Mathlib.Omega.{arith}
 use lib.ListN.{length, length-map}
-use Rattle.text.specs.Text.{ascii, line, newline, comma, Bytes, read_literal, All}
-use Rattle.text.specs.Reading.{give, ◌>>=◌, digit_of}
-use Rattle.text.specs.Format.{number, bytes_line, after_literal, either, always, pair, times, mapped, read_all}
-use Rattle.text.specs.Inner.Right.{Right}
-use Rattle.text.proofs.Laws.{none-not-some, bind-some, some_inj, number-right, bytes-line-right, after-literal-right, Any, Apart, either-right, always-right, pair-right, times-right, mapped-where, mapped-right, injective}
-use Rattle.heap.specs.State.{Slot, State, slot_at, worn}
-use Rattle.std.specs.Prelude.{if◌then◌else◌}
-use Rattle.word.specs.Lists.{filter}
-use Rattle.planes.proofs.Laws.{bytes-planes, bytes-restored, restored-planes, planes-restored}
-use Rattle.pages.specs.Form.{Form, form_of, written, writes_width, heap_front, retired_too, no_retired, heap_names, slot_front, wide_writes, narrow_writes, planes_name, data_name, slot_names, free_name, quarantine_name, sealed_name, retired_name}
-use Rattle.pages.specs.Reading.{slot_named, names, Fields, slot_of, fields_of, slot_format, with_bytes, in_column, out_of_column, slots_format, Counts, Head, sealed_end, retired_count, head_format, retired_format, Body, body_format, Parts, page_format, state_of, read_of, counts_of, head_of, body_of, saved, whole, read_page}
-use Rattle.pages.specs.Page.{slot_line, value_line, numbers_line, heap_line, retired_part, page_text, SlotWithin, RetiredWithin, Within, Unsaved, moved}
 
 no-comma : digit_of comma ≡ none
 unfolding digit_of
@@ -87,9 +86,6 @@ mapped-all {A} good to from g e n l h k = record { all = alls l h; count = lengt
     backs : (l : List A) → All good l → map from (map to l) ≡ l
     backs [] h = refl
     backs (a ∷ l) h = ap₂ (λ (x : A) (y : List A). x ∷ y) (e a h.0) (backs l h.1)
-
-abbrev pub Listed : {A : Type 0} → (A → Type 0) → ℕ → List A → Type 0
-Listed good n l = All good l × (length l ≡ n)
 
 pub slots-right : (w p : Bool) (n : ℕ) → Right (slots_format w p n) (Listed (λ s. Fields-good w (fields_of s)) n)
 unfolding slots_format

@@ -7,8 +7,8 @@ use mathlib.Core.Path.{◌≡◌, refl, sym, ap, ◌∙◌}
 use native.Mathlib.Omega.{arith}
 use lib.ListN.{length}
 use lib.Dec.{eqb, ltb}
-use Rattle.std.specs.Prelude.{if◌then◌else◌}
-use Rattle.word.specs.Lists.{all, filter}
+use Rattle.std.specs.Prelude.{if◌then◌else◌, filter}
+use Rattle.word.specs.Lists.{all}
 use Rattle.word.proofs.Bools.{and-true, and-false}
 use Rattle.word.proofs.ListLaws.{all_append, below-same}
 use Rattle.heap.specs.State.{State, slot_at, worn}

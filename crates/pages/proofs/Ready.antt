@@ -7,14 +7,16 @@ use lib.ListN.{length, get_or, take, drop, length-append, length-take, length-ma
 use native.Mathlib.Omega.{arith}
 use Rattle.word.proofs.ListLaws.{length-tabulate}
 use Rattle.heap.specs.State.{Slot, data_of}
-use Rattle.heap.specs.Packing.{pad, flat, ends, start_of}
+use Rattle.heap.specs.Packing.{pad, ends}
+use Rattle.std.specs.List.{concat}
+use Rattle.word.specs.Run.{start_of}
 use Rattle.heap.specs.Lent.{Lent, header_of, stored, view, slot_count, pool_size}
 use Rattle.heap.specs.WellFormed.{well_formed}
 use Rattle.heap.proofs.Sound.{WellFormed}
 use Rattle.heap.proofs.Testing.{formed-tested}
 use Rattle.heap.proofs.Counting.{all_slots}
 use Rattle.heap.proofs.Seals.{seals-few}
-use Rattle.heap.proofs.Packing.{flat-split, start-of, end_of}
+use Rattle.heap.proofs.Packing.{concat-split, start-of, end_of}
 use Rattle.pages.specs.Inner.Columns.{Ready}
 
 -- the data of the slots lies in order, inside the pool
@@ -22,15 +24,15 @@ module _ (S : ℕ) (end : List ℕ) (ds : List (List ℕ)) (e : end ≡ pad S (e
   rising : start_of end i ≤ get_or end i 0
   rising = rw e (omega (arith, start-of S ds i (omega arith), end_of S ds i h))
 
-  inside : get_or end i 0 ≤ length (flat ds)
+  inside : get_or end i 0 ≤ length (concat ds)
   inside =
       rw e
       (omega (
         arith,
         end_of S ds i h,
-        ap length (flat-split ds i h),
-        length-append (flat (take i ds)) (get_or ds i [] ++ flat (drop (suc i) ds)),
-        length-append (get_or ds i []) (flat (drop (suc i) ds)),
+        ap length (concat-split ds i h),
+        length-append (concat (take i ds)) (get_or ds i [] ++ concat (drop (suc i) ds)),
+        length-append (get_or ds i []) (concat (drop (suc i) ds)),
       ))
 
 -- as many as the header says, from the front of a column

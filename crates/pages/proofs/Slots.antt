@@ -1,21 +1,22 @@
 -- The slots that the writer's loops find in the runs, and what they have summed up or put so far. Assumes nothing.
 use Prim.Native.Nat.{ℕ, zero, suc, ◌+◌, ◌-◌, ◌*◌, ◌/◌, ◌≤◌, ◌<◌}
-use mathlib.Core.List.{List, flat_map}
-use mathlib.Core.Bool.{Bool, false}
-use mathlib.Core.Path.{◌≡◌, refl, sym, ap, ◌∙◌}
-use lib.ListN.{length, take, drop, get_or, length-take, length-drop}
-use native.Mathlib.Omega.{arith}
 use Rattle.word.proofs.RunLaws.{run-get, first-get}
 use Rattle.text.specs.Inner.Puts.{Puts}
 use Rattle.text.proofs.Putting.{puts_none, puts-at}
 use Rattle.heap.specs.State.{Slot}
-use Rattle.heap.specs.Packing.{start_of, data_at}
+use Rattle.heap.specs.Packing.{data_at}
 use Rattle.heap.specs.Lent.{Lent, lent, slot_in}
 use Rattle.heap.specs.declared.Heap.{Heap}
 use Rattle.heap.proofs.Packing.{start-next}
 use Rattle.pages.specs.Page.{slot_line}
 use Rattle.pages.specs.Inner.Columns.{slot, slots_in, Ready}
 use Rattle.pages.proofs.Writing.{lines, lines-all, line-more-length, line-room, puts-line}
+use Rattle.word.specs.Run.{start_of}
+use mathlib.Core.List.{List, flat_map}
+use mathlib.Core.Bool.{Bool, false}
+use mathlib.Core.Path.{◌≡◌, refl, sym, ap, ◌∙◌}
+use lib.ListN.{length, take, drop, get_or, length-take, length-drop}
+use native.Mathlib.Omega.{arith}
 
 -- the lines of i slots are n bytes long, and their data ends at `from`
 pub record Summed (l : Lent) (n from i : ℕ) : Type 0 where

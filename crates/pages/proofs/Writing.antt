@@ -1,12 +1,5 @@
 -- What the writer's loops add line by line.
 use Prim.Native.Nat.{ℕ, zero, suc, ◌+◌, ◌*◌, ◌≤◌, ◌<◌}
-use mathlib.Core.List.{List, [], ◌∷◌, ◌++◌, append_assoc, append-nil, flat_map}
-use mathlib.Core.Bool.{Bool, true, false}
-use mathlib.Core.Path.{◌≡◌, refl, sym, ap, ◌∙◌}
-use lib.ListN.{length, take, get_or, length-append}
-use lib.Seq.{take-suc, take_all}
-use native.Mathlib.Omega.{arith}
-use native.Mathlib.Numerals.{add-one}
 use Rattle.text.specs.Text.{decimal, hex, line}
 use Rattle.word.proofs.ListLaws.{length-tabulate, get_d_tabulate}
 use Rattle.text.specs.Inner.Puts.{Puts}
@@ -20,9 +13,16 @@ use Rattle.pages.specs.Reading.{from_column}
 use Rattle.pages.specs.Page.{value_line, slot_line, numbers_line}
 use Rattle.heap.specs.Lent.{Lent, slot_in}
 use Rattle.pages.specs.Inner.Columns.{slot, slots_in, field, head_fields}
+use mathlib.Core.List.{List, [], ◌∷◌, ◌++◌, append_assoc, append-nil, flat_map}
+use mathlib.Core.Bool.{Bool, true, false}
+use mathlib.Core.Path.{◌≡◌, refl, sym, ap, ◌∙◌}
+use lib.ListN.{length, take, get_or, length-append}
+use lib.Seq.{take-suc, take_all}
+use native.Mathlib.Omega.{arith}
+use native.Mathlib.Numerals.{add-one}
 
 module _ {A : Type 0} (f : A → List ℕ) where
-  flat_append : (xs ys : List A) → flat_map f (xs ++ ys) ≡ flat_map f xs ++ flat_map f ys
+  pub flat_append : (xs ys : List A) → flat_map f (xs ++ ys) ≡ flat_map f xs ++ flat_map f ys
   unfolding flat_map
   flat_append [] ys = refl
   flat_append (x ∷ xs) ys = rw (flat_append xs ys) (sym (append_assoc (f x) (flat_map f xs) (flat_map f ys)))

@@ -1,4 +1,4 @@
-pub mod Least
+pub mod PlacesFrom
 pub mod NoRoom
 pub mod StrideZero
 pub mod PlacesRise

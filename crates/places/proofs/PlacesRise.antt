@@ -1,17 +1,5 @@
 -- The places of an object rise: each begins at the end of the one before it or later. Assumes nothing.
 use Prim.Native.Nat.{ℕ, zero, suc, ◌+◌, ◌-◌, ◌*◌, ◌/◌, ◌^◌, ◌≤◌, ◌<◌, max, min}
-use mathlib.Core.Path.{◌≡◌, refl, sym, ap, ◌∙◌, subst}
-use mathlib.Core.Logic.{◌⊎◌, inl, inr}
-use mathlib.Core.Bool.{Bool, true, false}
-use mathlib.Core.Option.{none, some}
-use mathlib.Core.List.{List, [], ◌∷◌, ◌++◌, map}
-use lib.ListN.{length, take, drop, length-drop, length-take}
-use lib.Seq.{drop-drop}
-use lib.Dec.{leb, eqb, ltb}
-use borrow.Author.Tests.{leb-true, eqb-true}
-use native.Mathlib.Nat.{mul-suc, zero-mul}
-use native.Mathlib.Decide.{ℕ_discrete, dec_lt}
-use native.Mathlib.Omega.{arith}
 use Rattle.std.specs.Prelude.{Some, None, Ok, Err, unwrap_or, if◌then◌else◌}
 use Rattle.ty.specs.Types.{Ty, Ty.missing, Ty.int, Ty.physical, Ty.enum, Ty.real, Ty.array, Ty.fields, Ty.access, Ty.file, Ty.protected, Field, Field.field, Const, Const.plain, Const.other, Table, type_at, const_at, none as no_const}
 use Rattle.ty.specs.Words.{on_word, word_of, round_up, Word}
@@ -28,8 +16,20 @@ use Rattle.trace.proofs.Walks.{walk_is}
 use Rattle.places.specs.StrideZero.{ShortConstants}
 use Rattle.places.specs.PlacesRise.{Apart, PlacesRise, HandlesRise}
 use Rattle.reach.specs.Reach.{◌∈◌}
-use Rattle.places.proofs.Least.{Least, places-least}
 use Rattle.places.proofs.NoRoom.{laid-inj, from-laid, from-dims, up, laid-parts, leaf-free, more}
+use Rattle.places.proofs.PlacesFrom.{Least, places-least}
+use mathlib.Core.Path.{◌≡◌, refl, sym, ap, ◌∙◌, subst}
+use mathlib.Core.Logic.{◌⊎◌, inl, inr}
+use mathlib.Core.Bool.{Bool, true, false}
+use mathlib.Core.Option.{none, some}
+use mathlib.Core.List.{List, [], ◌∷◌, ◌++◌, map}
+use lib.ListN.{length, take, drop, length-drop, length-take}
+use lib.Seq.{drop-drop}
+use lib.Dec.{leb, eqb, ltb}
+use borrow.Author.Tests.{leb-true, eqb-true}
+use native.Mathlib.Nat.{mul-suc, zero-mul}
+use native.Mathlib.Decide.{ℕ_discrete, dec_lt}
+use native.Mathlib.Omega.{arith}
 
 -- ---- lists of places
 

@@ -1,2 +1,2 @@
-pub mod Grown
+pub mod Visiting
 pub mod Sound

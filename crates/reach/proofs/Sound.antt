@@ -1,5 +1,9 @@
 -- The marking marks exactly what is reached, and fails exactly where a reached object can't be traced. Assumes nothing.
 use Prim.Native.Nat.{ℕ, zero, suc, ◌+◌, ◌≤◌, ◌<◌}
+use Rattle.reach.specs.Reach.{Graph, Starts, ◌∈◌, First, Next, Linked, Chain, last_of, LeadsTo, Reached, UntraceableFrom}
+use Rattle.reach.specs.Marking.{State, nothing, visit, visit_maybe, follow, follow_all, pin_if, pin_all, seeded, drained, marking, or_done, and_then}
+use Rattle.reach.specs.Inner.Good.{Good}
+use Rattle.reach.proofs.Visiting.{Grown, ∈-get_or, ∈-index, good-nothing, good-room, grown-same, grown-then, grown-in, grown-all, grown-at, grown-length, visit-grown, visit-in}
 use mathlib.Core.Path.{◌≡◌, refl, sym, ap, ◌∙◌, subst}
 use mathlib.Core.Logic.{◌⊎◌, inl, inr, ⊎_elim, ◌↔◌}
 use mathlib.Core.Bool.{Bool, true, false}
@@ -10,10 +14,6 @@ use lib.Dec.{ltb}
 use borrow.Author.Tests.{ltb-true, ltb-false}
 use native.Mathlib.Omega.{arith}
 use native.Mathlib.Decide.{dec_lt}
-use Rattle.reach.specs.Reach.{Graph, Starts, ◌∈◌, First, Next, Linked, Chain, last_of, LeadsTo, Reached, UntraceableFrom}
-use Rattle.reach.specs.Marking.{State, nothing, visit, visit_maybe, follow, follow_all, pin_if, pin_all, seeded, drained, marking, or_done, or_stuck}
-use Rattle.reach.specs.Inner.Good.{Good}
-use Rattle.reach.proofs.Grown.{Grown, ∈-get_or, ∈-index, good-nothing, good-room, grown-same, grown-then, grown-in, grown-all, grown-at, grown-length, visit-grown, visit-in}
 
 -- objects have slots below n
 pub record Sized (G : Graph) (n : ℕ) : Type 0 where
@@ -136,9 +136,9 @@ pub record Marked (G : Graph) (S : Starts) (n : ℕ) (s : State) : Type 0 where
   -- and each has been traced
   pub free : UntraceableFrom G S → ⊥
 
-abbrev pub Answer : Graph → Starts → ℕ → Option State → Type 0
-Answer G S n none = UntraceableFrom G S
-Answer G S n (some s) = Marked G S n s
+abbrev pub MarkingTells : Graph → Starts → ℕ → Option State → Type 0
+MarkingTells G S n none = UntraceableFrom G S
+MarkingTells G S n (some s) = Marked G S n s
 
 module _ (G : Graph) (S : Starts) (n : ℕ) (z : Sized G n) where
   pub seeded-going : Going G S n (seeded G S n) 0
@@ -212,25 +212,25 @@ module _ (G : Graph) (S : Starts) (n : ℕ) (z : Sized G n) where
 
   -- one turn of the marking, whatever the turns after it give
   turn-answer : (f : ℕ) (s : State) (k : ℕ) → Going G S n s k → n ≤ suc f + k
-      → ((t : State) → Going G S n t (suc k) → n ≤ f + suc k → Answer G S n (drained G f t (suc k)))
-      → Answer G S n (drained G (suc f) s k)
+      → ((t : State) → Going G S n t (suc k) → n ≤ f + suc k → MarkingTells G S n (drained G f t (suc k)))
+      → MarkingTells G S n (drained G (suc f) s k)
   unfolding drained
   turn-answer f s k g h rest = test (ltb k (length s.queue)) refl
     where
-      trace : k < length s.queue → (r : Option (List ℕ)) → G.handles (get_or s.queue k 0) ≡ r → Answer G S n (or_stuck r (λ hs. drained G f (follow_all G.resolve s hs) (suc k)))
+      trace : k < length s.queue → (r : Option (List ℕ)) → G.handles (get_or s.queue k 0) ≡ r → MarkingTells G S n (and_then r (λ hs. drained G f (follow_all G.resolve s hs) (suc k)))
       trace l none e = going-stuck s k g l e
       trace l (some hs) e = rest (follow_all G.resolve s hs) (going_next s k g l hs e) (omega arith)
 
-      test : (b : Bool) → ltb k (length s.queue) ≡ b → Answer G S n (or_done b (or_stuck (G.handles (get_or s.queue k 0)) (λ hs. drained G f (follow_all G.resolve s hs) (suc k))) (some s))
+      test : (b : Bool) → ltb k (length s.queue) ≡ b → MarkingTells G S n (or_done b (and_then (G.handles (get_or s.queue k 0)) (λ hs. drained G f (follow_all G.resolve s hs) (suc k))) (some s))
       test true e = trace (ltb-true k (length s.queue) e) (G.handles (get_or s.queue k 0)) refl
       test false e = going_end s k g (ltb-false k (length s.queue) e)
 
-  pub drained-answer : (f : ℕ) (s : State) (k : ℕ) → Going G S n s k → n ≤ f + k → Answer G S n (drained G f s k)
+  pub drained-answer : (f : ℕ) (s : State) (k : ℕ) → Going G S n s k → n ≤ f + k → MarkingTells G S n (drained G f s k)
   unfolding drained
   drained-answer zero s k g h = going_end s k g (omega (arith, good-room n s g.good))
   drained-answer (suc f) s k g h = turn-answer f s k g h (λ t g' h'. drained-answer f t (suc k) g' h')
 
-  pub marking-answer : Answer G S n (marking G S n)
+  pub marking-answer : MarkingTells G S n (marking G S n)
   unfolding marking
   marking-answer = drained-answer n (seeded G S n) 0 seeded-going (omega arith)
 
@@ -238,25 +238,25 @@ module _ (G : Graph) (S : Starts) (n : ℕ) (z : Sized G n) where
 
   -- the marking fails exactly where a reached object can't be traced
   pub refused : (marking G S n ≡ none) ↔ UntraceableFrom G S
-  refused = (λ e. subst (Answer G S n) e marking-answer, λ x. back x (marking G S n) refl)
+  refused = (λ e. subst (MarkingTells G S n) e marking-answer, λ x. back x (marking G S n) refl)
     where
       back : UntraceableFrom G S → (r : Option State) → marking G S n ≡ r → marking G S n ≡ none
       back x none e = e
-      back x (some s) e = absurd ((subst (Answer G S n) e marking-answer).free x)
+      back x (some s) e = absurd ((subst (MarkingTells G S n) e marking-answer).free x)
 
   -- else a mark is 1 exactly where the object is reached, and 0 elsewhere
   pub kept : (s : State) → marking G S n ≡ some s → (o : ℕ) → o < n → (get_or s.marks o 0 ≡ 1) ↔ Reached G S o
   kept s e o h =
-      let m : Marked G S n s = subst (Answer G S n) e marking-answer in
+      let m : Marked G S n s = subst (MarkingTells G S n) e marking-answer in
       (λ w. ⊎_elim (λ c. absurd (omega arith)) (λ c. m.sound o c.1) (m.good.bits o h), λ r. m.good.queued o (m.whole o r))
 
   pub lost : (s : State) → marking G S n ≡ some s → (o : ℕ) → o < n → (get_or s.marks o 0 ≡ 0) ↔ (Reached G S o → ⊥)
   lost s e o h =
-      let m : Marked G S n s = subst (Answer G S n) e marking-answer in
+      let m : Marked G S n s = subst (MarkingTells G S n) e marking-answer in
       (λ w r. let q = m.good.queued o (m.whole o r) in omega arith, λ x. ⊎_elim (λ c. c) (λ c. absurd (x (m.sound o c.1))) (m.good.bits o h))
 
   pub reached-below : (o : ℕ) → Reached G S o → o < n
   reached-below = reached-ind G S (λ o. o < n) (λ o f. ⊎_elim (λ p. z.lives o p.1) (λ r. z.resolves r.0 o r.2) f) (λ p o a x. z.resolves x.2.0 o x.2.2)
 
   pub marks-length : (s : State) → marking G S n ≡ some s → length s.marks ≡ n
-  marks-length s e = let m : Marked G S n s = subst (Answer G S n) e marking-answer in m.good.size
+  marks-length s e = let m : Marked G S n s = subst (MarkingTells G S n) e marking-answer in m.good.size

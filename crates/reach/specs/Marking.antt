@@ -1,6 +1,6 @@
 -- How the collection finds what is reached, as a function that contracts can compute with: each object is marked and queued when it is first met, and the
 -- queue is gone through from the front. What is right stands in Reach.antt, and proofs/Sound.antt shows that the two agree.
-use Rattle.std.specs.Prelude.{ℕ, zero, suc, Bool, true, false, List, [], ◌∷◌, ◌++◌, length, get_or, set, replicate, ltb, eqb}
+use Rattle.std.specs.Prelude.{ℕ, zero, suc, Bool, ◌+◌, true, false, List, [], ◌∷◌, ◌++◌, length, get_or, set, replicate, ltb, eqb}
 use Rattle.std.proofs.Math.Option.{Option, none, some}
 use Rattle.reach.specs.Reach.{Graph, Starts}
 
@@ -49,16 +49,17 @@ abbrev pub or_done : Bool → Option State → Option State → Option State
 or_done true a b = a
 or_done false a b = b
 
-abbrev pub or_stuck : Option (List ℕ) → (List ℕ → Option State) → Option State
-or_stuck none f = none
-or_stuck (some hs) f = f hs
+-- what follows, unless something can't be traced
+abbrev pub and_then : {A B : Type 0} → Option A → (A → Option B) → Option B
+and_then none f = none
+and_then (some a) f = f a
 
 -- The queue from its k-th object on, at most so many of them. None: one can't be traced.
 unfoldable pub drained : Graph → ℕ → State → ℕ → Option State
 drained G zero s k = some s
 drained G (suc f) s k =
     or_done (ltb k (length s.queue))
-    (or_stuck (G.handles (get_or s.queue k 0)) (λ hs. drained G f (follow_all G.resolve s hs) (suc k)))
+    (and_then (G.handles (get_or s.queue k 0)) (λ hs. drained G f (follow_all G.resolve s hs) (suc k)))
     (some s)
 
 -- the marking of n slots

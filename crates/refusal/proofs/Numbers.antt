@@ -1,6 +1,8 @@
 -- Numbers tell refusals, and replies, apart (01, "What the host is told"). Assumes nothing.
 use mathlib.Core.Path.{◌≡◌, refl, sym, ap, ◌∙◌}
 use mathlib.Core.List.{[], ◌∷◌}
+use Prim.Native.Nat.{ℕ}
+use native.Mathlib.Omega.{arith}
 use lib.Dec.{eqb}
 use lib.ListN.{get_or}
 use Rattle.std.specs.Prelude.{if◌then◌else◌}
@@ -45,6 +47,12 @@ reply-told (Err NoRoots) = refl
 pub told-once : (a b : Reply) → told a ≡ told b → a ≡ b
 told-once a b e = sym (reply-told a) ∙ ap reply_of e ∙ reply-told b
 
+-- no refusal has the number of success
+pub never-0 : {X : Type 0} (why : Refusal) → number_of why ≡ 0 → X
+never-0 why e =
+    let same : ◌≡◌ {A = Reply} (Err why) (Ok (0, 0)) = told-once (Err why) (Ok (0, 0)) (ap refused_by e) in
+    let z : ◌≡◌ {A = ℕ} 0 1 = cc in absurd (omega (arith, z))
+
 abbrev why_of : Reply → Refusal
 why_of (Ok (a, b)) = Scratch
 why_of (Err why) = why
@@ -52,3 +60,11 @@ why_of (Err why) = why
 -- no two refusals have one number
 pub number-once : (a b : Refusal) → number_of a ≡ number_of b → a ≡ b
 number-once a b e = ap why_of (told-once (Err a) (Err b) (ap refused_by e))
+
+-- ---- the numbers of equal answers
+
+pub number : {a b : Answer} → a ≡ b → a.number ≡ b.number
+number e = ap (λ (x : Answer). x.number) e
+
+pub first : {a b : Answer} → a ≡ b → a.first ≡ b.first
+first e = ap (λ (x : Answer). x.first) e

@@ -15,7 +15,7 @@ use Rattle.word.specs.Result.{ok, refused}
 use Rattle.word.proofs.Bools.{either, and_both}
 use mathlib.Core.Logic.{⊎_elim}
 use Rattle.handle.specs.Handle.{packed}
-use Rattle.heap.specs.Packing.{flat}
+use Rattle.std.specs.List.{concat}
 use Rattle.heap.specs.State.{Slot, State, no_slot, slot_at, live, data_of, bit, times, with_free}
 use Rattle.heap.specs.Calls.{Changed, refuse, alloc_from, charged, placed, grown, last, but_last, allocated, with_slot, step, type_for}
 use Rattle.heap.proofs.Counting.{free-inside, inside, times-member}
@@ -134,7 +134,7 @@ module _ {S P : ℕ} {h : State} (g : Good S P h) (t k : ℕ) (bs : List ℕ) wh
   refused-tells : (n : ℕ) (st : State) → Good S P st → Tells (Stands S P) (telling n (machine_of st)) (told (refuse n st))
   refused-tells n st good = record { answer = refl; worlds = record { same = refl; good = good } }
 
-  module _ (low : 1 ≤ k) (high : k ≤ 3) (room : length (flat (data_of h.slots)) + length bs ≤ P) where
+  module _ (low : 1 ≤ k) (high : k ≤ 3) (room : length (concat (data_of h.slots)) + length bs ≤ P) where
     free-tells : 0 < length h.free
         → Tells (Stands S P) (issued (paid (machine_of h) (length bs + 32)) (ages h.slots) (but_last h.free) (last h.free) k t bs) (told (placed (with_free rich (but_last h.free)) (last h.free) k t 0 bs))
     free-tells some =
@@ -178,7 +178,7 @@ module _ {S P : ℕ} {h : State} (g : Good S P h) (t k : ℕ) (bs : List ℕ) wh
   unfolding allocating
   alloc-alike = ⊎_elim kinds (λ e. tells-by (allocs-kind S P t k bs (machine_of h) e) (rw e) (refused-tells 8 h g)) (either (is_kind k))
     where
-      same-data : lengths (objects 0 h.slots) ≡ length (flat (data_of h.slots))
+      same-data : lengths (objects 0 h.slots) ≡ length (concat (data_of h.slots))
       same-data = objects-lengths 0 h.slots (bare g)
 
       kinds : is_kind k ≡ true → Tells (Stands S P) (allocs S P t k bs (machine_of h)) (told (if is_kind k then alloc_from S P h k t 0 bs else refuse 8 h))
@@ -187,7 +187,7 @@ module _ {S P : ℕ} {h : State} (g : Good S P h) (t k : ℕ) (bs : List ℕ) wh
           let low : 1 ≤ k = leb-true 1 k both.0 in
           let high : k ≤ 3 = leb-true k 3 both.1 in
           subst (λ (b : Bool). Tells (Stands S P) (allocs S P t k bs (machine_of h)) (told (if b then alloc_from S P h k t 0 bs else refuse 8 h))) (sym e)
-          (elim (dec_lt P (length (flat (data_of h.slots)) + length bs)) [
+          (elim (dec_lt P (length (concat (data_of h.slots)) + length bs)) [
             | yes y ↦ tells-by (allocs-none S P t k bs (machine_of h) e (omega (arith, same-data))) (alloc-none S P h k t 0 bs y) (refused-tells 6 h g)
             | no y ↦ elim (dec_lt 0 (length h.free)) [
               | yes f ↦ tells-by (allocs-free S P t k bs (machine_of h) e (omega (arith, same-data)) f) (alloc-free S P h k t 0 bs (omega arith) f) (free-tells low high (omega arith) f)

@@ -1,19 +1,11 @@
 -- A line of figures has at most 67 bytes, so 80 are room enough. Assumes nothing.
 use Prim.Native.Nat.{ℕ, suc, ◌+◌, ◌*◌, ◌^◌, ◌≤◌, ◌<◌}
-use native.Mathlib.Omega.{arith}
-use mathlib.Core.Bool.{Bool, true, false}
-use mathlib.Core.List.{List, [], ◌∷◌, ◌++◌}
-use mathlib.Core.Option.{Option, none, some}
-use mathlib.Core.Path.{◌≡◌, refl, subst}
-use lib.Dec.{eqb, ltb, leb}
-use lib.ListN.{length, length-append}
 use Rattle.std.specs.Prelude.{if◌then◌else◌}
 use Rattle.word.specs.Result.{Result, ok, refused}
 use Rattle.word.specs.Inner.Number.{number}
 use Rattle.text.specs.Text.{decimal, line, All}
 use Rattle.text.proofs.Laws.{decimal-length}
 use Rattle.ty.specs.Types.{Table}
-use Rattle.heap.specs.Packing.{flat}
 use Rattle.heap.specs.State.{Slot, State, live, data_of, data_size, with_free}
 use Rattle.heap.specs.Calls.{Changed, refuse, charged, grown, last, but_last, placed as at_place, alloc_from}
 use Rattle.collection.specs.Swept.{live_size}
@@ -28,6 +20,14 @@ use Rattle.rehearsal.proofs.Allocating.{alloc-alike}
 use Rattle.rehearsal.proofs.Storing.{store-alike}
 use Rattle.rehearsal.proofs.Collecting.{collect-alike}
 use Rattle.rehearsal.proofs.Telling.{tells, tells-right}
+use Rattle.std.specs.List.{concat}
+use native.Mathlib.Omega.{arith}
+use mathlib.Core.Bool.{Bool, true, false}
+use mathlib.Core.List.{List, [], ◌∷◌, ◌++◌}
+use mathlib.Core.Option.{Option, none, some}
+use mathlib.Core.Path.{◌≡◌, refl, subst}
+use lib.Dec.{eqb, ltb, leb}
+use lib.ListN.{length, length-append}
 
 -- ---- what a run keeps
 
@@ -103,13 +103,13 @@ module _ {W : Type 0} (I : W → Type 0) (most : ℕ) (G : World W) (keeps : Kee
 
 -- ---- the heap's
 
-pub live-most : (ss : List Slot) → live_size ss ≤ length (flat (data_of ss)) + 32 * length ss
-unfolding live_size flat
+pub live-most : (ss : List Slot) → live_size ss ≤ length (concat (data_of ss)) + 32 * length ss
+unfolding live_size
 live-most [] = omega arith
-live-most (s ∷ ss) = go (live s) (live-most ss) (length-append s.bytes (flat (data_of ss)))
+live-most (s ∷ ss) = go (live s) (live-most ss) (length-append s.bytes (concat (data_of ss)))
   where
-    go : (b : Bool) → live_size ss ≤ length (flat (data_of ss)) + 32 * length ss → length (s.bytes ++ flat (data_of ss)) ≡ length s.bytes + length (flat (data_of ss))
-        → (if b then (length s.bytes + 32) else 0) + live_size ss ≤ length (s.bytes ++ flat (data_of ss)) + 32 * suc (length ss)
+    go : (b : Bool) → live_size ss ≤ length (concat (data_of ss)) + 32 * length ss → length (s.bytes ++ concat (data_of ss)) ≡ length s.bytes + length (concat (data_of ss))
+        → (if b then (length s.bytes + 32) else 0) + live_size ss ≤ length (s.bytes ++ concat (data_of ss)) + 32 * suc (length ss)
     go true h e = omega arith
     go false h e = omega arith
 

@@ -1,5 +1,34 @@
 -- A collection of the machine is that of the heap. Assumes nothing.
 use Prim.Native.Nat.{ℕ, ◌+◌, ◌^◌, ◌<◌}
+use Rattle.std.specs.Prelude.{if◌then◌else◌, filter}
+use Rattle.word.specs.Result.{Result, ok}
+use Rattle.word.proofs.Bools.{bool-ext, true-false}
+use Rattle.word.specs.Lists.{has}
+use Rattle.text.proofs.Laws.{none-not-some, some_inj}
+use Rattle.handle.specs.Handle.{packed}
+use Rattle.ty.specs.Types.{Table}
+use Rattle.trace.specs.Places.{handles_of}
+use Rattle.heap.specs.State.{Slot, State, no_slot, slot_at, live, last_generation, worn}
+use Rattle.heap.specs.Calls.{resolve, released}
+use Rattle.reach.specs.Reach.{Graph, Starts, Reached, UntraceableFrom, ◌∈◌}
+use Rattle.reach.specs.Marking.{State as Marks, marking}
+use Rattle.reach.proofs.Sound.{reached-first, reached-next, reached-ind, refused as stuck-exactly, lost as lost-exactly}
+use Rattle.collection.specs.Swept.{swept, goes, dropped}
+use Rattle.heap.proofs.Keeping.{live_inside}
+use Rattle.collection.proofs.Dropping.{swept_slot}
+use Rattle.collection.proofs.SweptLaws.{swept-slot, swept-count, swept-sound, swept-tag, swept-free, swept-quarantine, swept-sealed, swept-since, swept-live}
+use Rattle.collection.specs.Collected.{found, graph, starts}
+use Rattle.collection.specs.Collecting.{swept_by, collected}
+use Rattle.collection.proofs.Demand.{sized, found_ok}
+use Rattle.collection.specs.Shown.{shown}
+use Rattle.rehearsal.specs.Machine.{Object, sizes, look, shows, handle_of, shown_by, chains, from, Tells, Right, stuck, numbers, older, left, collects}
+use Rattle.rehearsal.specs.OnHeap.{collects_heap, left as left_heap}
+use Rattle.rehearsal.proofs.Simulation.{Both}
+use Rattle.rehearsal.proofs.Objects.{object_of, objects, objects-sizes, swept_from, swept-length, swept_at, Agree, kept-objects, gone-objects, gone-ages, Blocked, stuck-found, stuck_there}
+use Rattle.rehearsal.proofs.Relation.{ages, machine_of, Good, Stands, few, resolved-handle, handle-resolves, looks, resolved-look, look-seen}
+use Rattle.rehearsal.proofs.Allocating.{step_small}
+use Rattle.rehearsal.proofs.Storing.{both_by}
+use Rattle.reach.proofs.Visiting.{∈-left, ∈-cases}
 use native.Mathlib.Omega.{arith}
 use mathlib.Core.Bool.{Bool, true, false, not}
 use mathlib.Core.List.{List, [], ◌++◌, append-nil}
@@ -10,35 +39,6 @@ use lib.Dec.{eqb}
 use lib.ListN.{length, get_or, get_or-map}
 use lib.Seq.{ext_get_or}
 use borrow.Author.Tests.{eqb-true, eq-eqb}
-use Rattle.std.specs.Prelude.{if◌then◌else◌}
-use Rattle.word.specs.Result.{Result, ok}
-use Rattle.word.proofs.Bools.{bool-ext, true-false}
-use Rattle.word.specs.Lists.{filter}
-use Rattle.text.proofs.Laws.{none-not-some, some_inj}
-use Rattle.handle.specs.Handle.{packed}
-use Rattle.ty.specs.Types.{Table}
-use Rattle.trace.specs.Places.{handles_of}
-use Rattle.heap.specs.State.{Slot, State, no_slot, slot_at, live, last_generation, worn}
-use Rattle.heap.specs.Calls.{resolve, member, released}
-use Rattle.reach.specs.Reach.{Graph, Starts, Reached, UntraceableFrom, ◌∈◌}
-use Rattle.reach.specs.Marking.{State as Marks, marking}
-use Rattle.reach.proofs.Grown.{∈-left, ∈-cases}
-use Rattle.reach.proofs.Sound.{reached-first, reached-next, reached-ind, refused as stuck-exactly, lost as lost-exactly}
-use Rattle.collection.specs.Swept.{swept, goes, dropped}
-use Rattle.heap.proofs.Keeping.{live_inside}
-use Rattle.collection.proofs.Dropping.{swept_slot}
-use Rattle.collection.proofs.SweptLaws.{swept-slot, swept-count, swept-sound, swept-tag, swept-free, swept-quarantine, swept-sealed, swept-since, swept-live}
-use Rattle.collection.specs.Collected.{found, graph, starts}
-use Rattle.collection.specs.Collecting.{swept_by, collected}
-use Rattle.collection.proofs.Demand.{sized, found_ok}
-use Rattle.collection.specs.Shown.{shown}
-use Rattle.rehearsal.specs.Machine.{Object, sizes, look, shows, handle_of, shown_by, chains, from, Tells, Right, those, stuck, numbers, older, left, collects}
-use Rattle.rehearsal.specs.OnHeap.{collects_heap, left as left_heap}
-use Rattle.rehearsal.proofs.Simulation.{Both}
-use Rattle.rehearsal.proofs.Objects.{object_of, objects, objects-sizes, swept_from, swept-length, swept_at, Agree, kept-objects, gone-objects, gone-ages, Blocked, stuck-found, stuck_there}
-use Rattle.rehearsal.proofs.Relation.{ages, machine_of, Good, Stands, few, resolved-handle, handle-resolves, looks, resolved-look, look-seen}
-use Rattle.rehearsal.proofs.Allocating.{step_small}
-use Rattle.rehearsal.proofs.Storing.{both_by}
 
 same_ok : (r : Result ℕ) (i j : ℕ) → r ≡ ok i → r ≡ ok j → i ≡ j
 same_ok r i j p q = cc
@@ -159,25 +159,25 @@ module _ (T : Table) {S P : ℕ} {h : State} (g : Good S P h) (roots : List ℕ)
           ext_get_or no_slot (swept h marks []).slots (swept_from marks 0 h.slots) (swept-count h marks [] ∙ sym (swept-length marks 0 h.slots))
           (λ i less. swept-slot h marks [] i ∙ ap (λ (k : ℕ). swept_slot marks k (slot_at h i)) (sym (zero-plus i)) ∙ sym (swept_at marks 0 h.slots i (omega (arith, swept-count h marks []))))
 
-      gone : numbers (those (λ x. not (keep x)) os) ≡ dropped marks 0 h.slots
+      gone : numbers (filter (λ (o : Object). not (keep o.handle)) os) ≡ dropped marks 0 h.slots
       gone = gone-objects keep marks 0 h.slots agree g.young (omega (arith, few g))
 
-      objects-after : those keep os ≡ objects 0 (swept h marks []).slots
+      objects-after : filter (λ (o : Object). keep o.handle) os ≡ objects 0 (swept h marks []).slots
       objects-after = kept-objects keep marks 0 h.slots agree ∙ ap (objects 0) (sym slots-after)
 
       world-after : left keep (machine_of h) ≡ machine_of (swept h marks [])
       world-after =
-          let a : older (numbers (those (λ x. not (keep x)) os)) 0 (ages h.slots) ≡ ages (swept h marks []).slots =
+          let a : older (numbers (filter (λ (o : Object). not (keep o.handle)) os)) 0 (ages h.slots) ≡ ages (swept h marks []).slots =
           ap (λ (l : List ℕ). older l 0 (ages h.slots)) gone ∙ gone-ages marks h.slots ∙ ap ages (sym slots-after) in
-          let aged : List ℕ = older (numbers (those (λ x. not (keep x)) os)) 0 (ages h.slots) in
+          let aged : List ℕ = older (numbers (filter (λ (o : Object). not (keep o.handle)) os)) 0 (ages h.slots) in
           let fresh-again : (i : ℕ) → not (eqb (get_or aged i 0) last_generation) ≡ not (worn (slot_at (swept h marks []) i)) =
           λ i. ap (λ (l : List ℕ). not (eqb (get_or l i 0) last_generation)) a ∙ ap (λ (n : ℕ). not (eqb n last_generation)) (get_or-map (λ (s : Slot). s.generation) (swept h marks []).slots i no_slot) in
-          let f : h.free ++ filter (λ i. not (eqb (get_or aged i 0) last_generation)) (numbers (those (λ x. not (keep x)) os)) ≡ (swept h marks []).free =
+          let f : h.free ++ filter (λ i. not (eqb (get_or aged i 0) last_generation)) (numbers (filter (λ (o : Object). not (keep o.handle)) os)) ≡ (swept h marks []).free =
           (λ q. h.free ++ filter (λ i. fresh-again i q) (gone q))
           ∙ sym (append-nil (h.free ++ filter (λ i. not (worn (slot_at (swept h marks []) i))) (dropped marks 0 h.slots)))
-          ∙ ap (λ (l : List ℕ). (h.free ++ filter (λ i. not (worn (slot_at (swept h marks []) i))) (dropped marks 0 h.slots)) ++ filter (λ i. not (worn (slot_at (swept h marks []) i))) (filter (λ i. not (member i [])) l)) (sym g.quarantine)
+          ∙ ap (λ (l : List ℕ). (h.free ++ filter (λ i. not (worn (slot_at (swept h marks []) i))) (dropped marks 0 h.slots)) ++ filter (λ i. not (worn (slot_at (swept h marks []) i))) (filter (λ i. not (has [] i)) l)) (sym g.quarantine)
           ∙ sym (swept-free h marks []) in
-          let s : sizes (those keep os) ≡ (swept h marks []).live_bytes = ap sizes objects-after ∙ objects-sizes 0 (swept h marks []).slots ∙ sym (swept-live h marks []) in
+          let s : sizes (filter (λ (o : Object). keep o.handle) os) ≡ (swept h marks []).live_bytes = ap sizes objects-after ∙ objects-sizes 0 (swept h marks []).slots ∙ sym (swept-live h marks []) in
           λ q. record { objects = objects-after q; ages = a q; free = f q; since = sym (swept-since h marks []) q; survived = s q }
 
       pointwise : (Q : Slot → Type 0) → ((s : Slot) → Q s → Q (released s)) → ((j : ℕ) → Q (slot_at h j)) → (j : ℕ) → Q (slot_at (swept h marks []) j)
@@ -193,7 +193,7 @@ module _ (T : Table) {S P : ℕ} {h : State} (g : Good S P h) (roots : List ℕ)
             sound = swept-sound S P h marks [] g.sound;
             tag = swept-tag h marks [] ∙ g.tag;
             sealed = swept-sealed h marks [] ∙ g.sealed;
-            quarantine = swept-quarantine h marks [] ∙ ap (filter (λ i. member i [])) g.quarantine;
+            quarantine = swept-quarantine h marks [] ∙ ap (filter (λ i. has [] i)) g.quarantine;
             young = pointwise (λ s. s.generation < 2 ^ 32) (λ s p. step_small s.generation) g.young;
             whole = pointwise (λ s. s.start ≡ 0) (λ s p. refl) g.whole;
           }

@@ -8,20 +8,21 @@ use mathlib.Core.Path.{◌≡◌, refl, sym, ap, ◌∙◌, subst}
 use lib.Dec.{eqb, ltb}
 use lib.ListN.{length, get_or, set, length-append}
 use borrow.Author.Tests.{ne_eqb, eq-eqb, eqb-true, lt-ltb, le-ltb}
-use Rattle.std.specs.Prelude.{if◌then◌else◌}
+use Rattle.std.specs.Prelude.{filter, if◌then◌else◌}
 use Rattle.handle.specs.Handle.{packed, index_of}
 use Rattle.handle.proofs.HandleLaws.{index-packed}
 use Rattle.text.proofs.Laws.{none-not-some, some_inj}
-use Rattle.heap.specs.Packing.{flat}
+use Rattle.std.specs.List.{concat}
 use mathlib.Core.Logic.{⊎_elim}
 use Rattle.word.proofs.Bools.{true-false, or_cases, or_left, or_right, and_both, both-and}
 use Rattle.ty.specs.Types.{Table}
 use Rattle.heap.specs.State.{Slot, no_slot, live, data_size, data_of, bit, times}
-use Rattle.heap.specs.Calls.{step, member, released}
+use Rattle.heap.specs.Calls.{step, released}
+use Rattle.word.specs.Lists.{has}
 use Rattle.collection.specs.Swept.{goes, dropped, live_size}
 use Rattle.collection.proofs.Dropping.{swept_slot}
-use Rattle.heap_calls.proofs.Marked.{bit-positive}
-use Rattle.rehearsal.specs.Machine.{Object, sizes, lengths, look, inserted, stored, stored_at, those, numbers, older, shows, untraceable, stuck}
+use Rattle.heap.proofs.Counting.{bit-positive, has-times}
+use Rattle.rehearsal.specs.Machine.{Object, sizes, lengths, look, inserted, stored, stored_at, numbers, older, shows, untraceable, stuck}
 
 abbrev pub object_of : ℕ → Slot → Object
 object_of i s = record { handle = packed 1 i s.generation; kind = s.kind; type = s.type; bytes = s.bytes }
@@ -63,11 +64,11 @@ abbrev pub Bare : List Slot → Type 0
 Bare ss = (i : ℕ) → live (get_or ss i no_slot) ≡ false → length (get_or ss i no_slot).bytes ≡ 0
 
 pub objects-lengths : (i : ℕ) (ss : List Slot) → Bare ss → lengths (objects i ss) ≡ data_size ss
-unfolding lengths flat objects
+unfolding lengths objects
 objects-lengths i [] bare = refl
 objects-lengths i (s ∷ ss) bare =
-    let ih : lengths (objects (suc i) ss) ≡ length (flat (data_of ss)) = objects-lengths (suc i) ss (λ j. bare (suc j)) in
-    let sum : length (flat (data_of (s ∷ ss))) ≡ length s.bytes + length (flat (data_of ss)) = length-append s.bytes (flat (data_of ss)) in
+    let ih : lengths (objects (suc i) ss) ≡ length (concat (data_of ss)) = objects-lengths (suc i) ss (λ j. bare (suc j)) in
+    let sum : length (concat (data_of (s ∷ ss))) ≡ length s.bytes + length (concat (data_of ss)) = length-append s.bytes (concat (data_of ss)) in
     by-life s (λ e. rw e (omega arith)) (λ e. rw e (omega (arith, bare 0 e)))
 
 -- ---- handles
@@ -227,29 +228,29 @@ agree-here keep marks i s ss h e =
     let z : i + 0 ≡ i = omega arith in
     subst (λ (k : ℕ). eqb (get_or marks k 0) 0 ≡ not (keep (packed 1 k s.generation))) z (h 0 e)
 
-pub kept-objects : (keep : ℕ → Bool) (marks : List ℕ) (i : ℕ) (ss : List Slot) → Agree keep marks i ss → those keep (objects i ss) ≡ objects i (swept_from marks i ss)
-unfolding those objects swept_from
+pub kept-objects : (keep : ℕ → Bool) (marks : List ℕ) (i : ℕ) (ss : List Slot) → Agree keep marks i ss → filter (λ (o : Object). keep o.handle) (objects i ss) ≡ objects i (swept_from marks i ss)
+unfolding objects swept_from
 kept-objects keep marks i [] h = refl
 kept-objects keep marks i (s ∷ ss) h =
-    let ih : those keep (objects (suc i) ss) ≡ objects (suc i) (swept_from marks (suc i) ss) = kept-objects keep marks (suc i) ss (agree-later keep marks i s ss h) in
+    let ih : filter (λ (o : Object). keep o.handle) (objects (suc i) ss) ≡ objects (suc i) (swept_from marks (suc i) ss) = kept-objects keep marks (suc i) ss (agree-later keep marks i s ss h) in
     by-life s (λ l. go (keep (packed 1 i s.generation)) refl l (agree-here keep marks i s ss h l) ih) (λ l. rw (l, l) ih)
   where
     go : (b : Bool) → keep (packed 1 i s.generation) ≡ b → live s ≡ true → eqb (get_or marks i 0) 0 ≡ not (keep (packed 1 i s.generation))
-        → those keep (objects (suc i) ss) ≡ objects (suc i) (swept_from marks (suc i) ss) → those keep (objects i (s ∷ ss)) ≡ objects i (swept_from marks i (s ∷ ss))
+        → filter (λ (o : Object). keep o.handle) (objects (suc i) ss) ≡ objects (suc i) (swept_from marks (suc i) ss) → filter (λ (o : Object). keep o.handle) (objects i (s ∷ ss)) ≡ objects i (swept_from marks i (s ∷ ss))
     go true q l a ih = rw (l, a, q, l, ih)
     go false q l a ih = rw (l, a, q, ih)
 
 pub gone-objects : (keep : ℕ → Bool) (marks : List ℕ) (i : ℕ) (ss : List Slot) → Agree keep marks i ss → Young ss → i + length ss ≤ 2 ^ 24
-    → numbers (those (λ x. not (keep x)) (objects i ss)) ≡ dropped marks i ss
-unfolding those objects dropped
+    → numbers (filter (λ (o : Object). not (keep o.handle)) (objects i ss)) ≡ dropped marks i ss
+unfolding objects dropped
 gone-objects keep marks i [] h young few = refl
 gone-objects keep marks i (s ∷ ss) h young few =
-    let ih : numbers (those (λ x. not (keep x)) (objects (suc i) ss)) ≡ dropped marks (suc i) ss = gone-objects keep marks (suc i) ss (agree-later keep marks i s ss h) (λ k. young (suc k)) (omega arith) in
+    let ih : numbers (filter (λ (o : Object). not (keep o.handle)) (objects (suc i) ss)) ≡ dropped marks (suc i) ss = gone-objects keep marks (suc i) ss (agree-later keep marks i s ss h) (λ k. young (suc k)) (omega arith) in
     let index : index_of (packed 1 i s.generation) ≡ i = index-packed 1 i s.generation (omega arith) (young 0) in
     by-life s (λ l. go (keep (packed 1 i s.generation)) refl l (agree-here keep marks i s ss h l) index ih) (λ l. rw l ih)
   where
     go : (b : Bool) → keep (packed 1 i s.generation) ≡ b → live s ≡ true → eqb (get_or marks i 0) 0 ≡ not (keep (packed 1 i s.generation)) → index_of (packed 1 i s.generation) ≡ i
-        → numbers (those (λ x. not (keep x)) (objects (suc i) ss)) ≡ dropped marks (suc i) ss → numbers (those (λ x. not (keep x)) (objects i (s ∷ ss))) ≡ dropped marks i (s ∷ ss)
+        → numbers (filter (λ (o : Object). not (keep o.handle)) (objects (suc i) ss)) ≡ dropped marks (suc i) ss → numbers (filter (λ (o : Object). not (keep o.handle)) (objects i (s ∷ ss))) ≡ dropped marks i (s ∷ ss)
     go true q l a n ih = rw (l, a, q, ih)
     go false q l a n ih = rw (l, a, q, n, ih)
 
@@ -282,15 +283,15 @@ member-dropped marks i (s ∷ ss) (suc j) h =
     go true e = rw (ne_eqb i (suc i + j) (λ q. omega arith)) (omega arith)
     go false e = e
 
-older-ages : (marks gone : List ℕ) (i : ℕ) (ss : List Slot) → ((j : ℕ) → j < length ss → member (i + j) gone ≡ goes marks (i + j) (get_or ss j no_slot))
+older-ages : (marks gone : List ℕ) (i : ℕ) (ss : List Slot) → ((j : ℕ) → j < length ss → has gone (i + j) ≡ goes marks (i + j) (get_or ss j no_slot))
     → older gone i (map (λ (s : Slot). s.generation) ss) ≡ map (λ (s : Slot). s.generation) (swept_from marks i ss)
 unfolding older swept_from
 older-ages marks gone i [] h = refl
 older-ages marks gone i (s ∷ ss) h =
     let z : i + 0 ≡ i = omega arith in
-    let here : member i gone ≡ goes marks i s = subst (λ (k : ℕ). member k gone ≡ goes marks k s) z (h 0 (omega arith)) in
+    let here : has gone i ≡ goes marks i s = subst (λ (k : ℕ). has gone k ≡ goes marks k s) z (h 0 (omega arith)) in
     let ih : older gone (suc i) (map (λ (s : Slot). s.generation) ss) ≡ map (λ (s : Slot). s.generation) (swept_from marks (suc i) ss) =
-    older-ages marks gone (suc i) ss (λ j less. subst (λ (k : ℕ). member k gone ≡ goes marks k (get_or ss j no_slot)) (let y : i + suc j ≡ suc i + j = omega arith in y) (h (suc j) (omega arith))) in
+    older-ages marks gone (suc i) ss (λ j less. subst (λ (k : ℕ). has gone k ≡ goes marks k (get_or ss j no_slot)) (let y : i + suc j ≡ suc i + j = omega arith in y) (h (suc j) (omega arith))) in
     λ q. (ap (λ (b : Bool). if b then step s.generation else s.generation) here ∙ pick (goes marks i s)) q ∷ ih q
   where
     pick : (b : Bool) → (if b then step s.generation else s.generation) ≡ (if b then released s else s).generation
@@ -298,7 +299,7 @@ older-ages marks gone i (s ∷ ss) h =
     pick false = refl
 
 pub gone-ages : (marks : List ℕ) (ss : List Slot) → older (dropped marks 0 ss) 0 (map (λ (s : Slot). s.generation) ss) ≡ map (λ (s : Slot). s.generation) (swept_from marks 0 ss)
-gone-ages marks ss = older-ages marks (dropped marks 0 ss) 0 ss (λ j less. ap (ltb 0) (member-dropped marks 0 ss j less) ∙ bit-positive (goes marks (0 + j) (get_or ss j no_slot)))
+gone-ages marks ss = older-ages marks (dropped marks 0 ss) 0 ss (λ j less. has-times (dropped marks 0 ss) (0 + j) ∙ ap (ltb 0) (member-dropped marks 0 ss j less) ∙ bit-positive (goes marks (0 + j) (get_or ss j no_slot)))
 
 -- ---- what can't be traced
 

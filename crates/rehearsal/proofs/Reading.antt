@@ -1,5 +1,14 @@
 -- A line's text reads as that line, and only its text does; so does a text of lines. Assumes nothing.
 use Prim.Native.Nat.{ℕ, zero, suc, ◌^◌, ◌<◌, ◌≤◌}
+use Rattle.text.specs.Text.{ascii, comma, newline, line, read_literal, All}
+use Rattle.text.specs.Reading.{give, ◌>>=◌, digit_of}
+use Rattle.text.specs.Format.{number, bytes_line, pair}
+use Rattle.text.specs.Inner.Right.{Right}
+use Rattle.text.proofs.Laws.{none-not-some, bind-some, some_inj, literal-forth, literal-back, number-right, pair-right, by_name}
+use Rattle.script.specs.Reading.{alloc_format}
+use Rattle.script.proofs.Reading.{alloc-right}
+use Rattle.rehearsal.specs.Lines.{Line, alloc, store, drop, line_text, lines_text, Within}
+use Rattle.rehearsal.specs.Reading.{store_format, read_alloc, read_store, read_drop, read_line, read_most, read_lines, is_read, is_text}
 use native.Mathlib.Omega.{arith}
 use mathlib.Core.Bool.{true, false}
 use mathlib.Core.List.{List, [], ◌∷◌, ◌++◌, append_assoc, flat_map}
@@ -7,15 +16,6 @@ use mathlib.Core.Option.{Option, none, some}
 use mathlib.Core.Path.{◌≡◌, refl, ap, ◌∙◌}
 use mathlib.Core.Logic.{◌↔◌}
 use lib.ListN.{length, length-append}
-use Rattle.text.specs.Text.{ascii, comma, newline, line, read_literal, All}
-use Rattle.text.specs.Reading.{Reader, give, ◌>>=◌, digit_of}
-use Rattle.text.specs.Format.{number, bytes_line, pair}
-use Rattle.text.specs.Inner.Right.{Right}
-use Rattle.text.proofs.Laws.{none-not-some, bind-some, some_inj, literal-forth, literal-back, number-right, pair-right}
-use Rattle.script.specs.Reading.{alloc_format}
-use Rattle.script.proofs.Reading.{alloc-right}
-use Rattle.rehearsal.specs.Lines.{Line, alloc, store, drop, line_text, lines_text, Within}
-use Rattle.rehearsal.specs.Reading.{store_format, read_alloc, read_store, read_drop, named, read_line, read_most, read_lines, is_read, is_text}
 
 no-comma : digit_of comma ≡ none
 unfolding digit_of
@@ -75,11 +75,6 @@ line-forth (drop a) rest h =
     rw (drop-line a, append_assoc (ascii "drop,") ((number 64 newline).print a) rest, not-alloc' u, not-store u, literal-forth (ascii "drop,") u, (number-right 64 newline no-newline).forth a rest h)
 
 -- ---- back
-
-by_name : {X : Type 0} (o : Option (List ℕ)) (fields : Reader Line) (other : Option (Line × List ℕ)) (c : Line) (rest : List ℕ) → named o fields other ≡ give c rest
-    → ((u : List ℕ) → o ≡ some u → fields u ≡ give c rest → X) → (other ≡ give c rest → X) → X
-by_name none fields other c rest e f g = g e
-by_name (some u) fields other c rest e f g = f u refl e
 
 module _ (t : List ℕ) (c : Line) (rest : List ℕ) where
   -- the text of another line, with another rest

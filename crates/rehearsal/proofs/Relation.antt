@@ -14,7 +14,6 @@ use Rattle.word.specs.Result.{ok}
 use Rattle.handle.specs.Handle.{packed}
 use Rattle.handle.proofs.HandleLaws.{packed-fields}
 use Rattle.handle.proofs.ResolveLaws.{Resolves, resolve-ok, resolve-packed}
-use Rattle.heap.specs.Packing.{flat}
 use Rattle.heap.specs.State.{Slot, State, no_slot, slot_at, live}
 use Rattle.heap.specs.Calls.{resolve, gc_due, new}
 use Rattle.heap.proofs.Sound.{Sound}
@@ -49,7 +48,7 @@ unfolding sound new all partitioned retired_rightly all_below sound_seals sound_
 new-sound = refl
 
 new-fits : (S P : ℕ) → 1 ≤ S → S ≤ 16777216 → P ≤ 1073741824 → fits S P (new 1) ≡ true
-unfolding fits new flat
+unfolding fits new
 new-fits S P a b c = simp (le-leb 1 S a, le-leb S 16777216 b, le-leb P 1073741824 c, le-leb 0 S (omega arith), le-leb 0 P (omega arith))
 
 pub stands-new : (S P : ℕ) → 1 ≤ S → S ≤ 16777216 → P ≤ 1073741824 → Stands S P empty (new 1)

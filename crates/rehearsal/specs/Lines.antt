@@ -1,7 +1,7 @@
 -- The lines of a rehearsal (02 [12]) as data and as text.
 use Rattle.std.specs.Prelude.{ℕ, ◌^◌, ◌<◌}
+use Rattle.text.specs.Text.{ascii, decimal, hex, line, Bytes, named}
 use mathlib.Core.List.{List, [], ◌∷◌, flat_map}
-use Rattle.text.specs.Text.{ascii, decimal, hex, line, Bytes}
 
 -- held objects are named by their turn among the allocate lines, from 1
 pub data Line : Type 0 where

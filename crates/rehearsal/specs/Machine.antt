@@ -1,17 +1,17 @@
 -- The plain machine of a rehearsal (02 [12]): a list of objects, each with the handle that a heap of tag 1 would issue it. A collection is said by chains of such
 -- handles (crate `reach`); no worklist, columns or marks stand here.
-use Rattle.std.specs.Prelude.{ℕ, suc, ◌+◌, max, ◌≡◌, Bool, true, false, not, ◌&&◌, ◌||◌, List, [], ◌∷◌, ◌++◌, map, ◌↔◌, eqb, ltb, leb, length, get_or, set, if◌then◌else◌}
+use Rattle.std.specs.Prelude.{ℕ, suc, ◌+◌, max, ◌≡◌, Bool, true, false, not, ◌&&◌, ◌||◌, List, [], ◌∷◌, ◌++◌, map, ◌↔◌, eqb, ltb, leb, length, get_or, set, if◌then◌else◌, filter}
 use Rattle.std.proofs.Math.Option.{Option, none, some}
 use Rattle.word.specs.Le.{bytes as bytes_of}
 use Rattle.word.specs.Num.{saturating}
 use Rattle.word.specs.Put.{put}
 use Rattle.word.specs.Result.{ok, refused}
-use Rattle.word.specs.Lists.{filter}
 use Rattle.handle.specs.Handle.{packed, index_of}
 use Rattle.ty.specs.Types.{Table}
 use Rattle.trace.specs.Places.{handles_of}
 use Rattle.heap.specs.State.{last_generation}
-use Rattle.heap.specs.Calls.{step, last, but_last, member, type_for}
+use Rattle.heap.specs.Calls.{step, last, but_last, type_for}
+use Rattle.word.specs.Lists.{has}
 use Rattle.reach.specs.Reach.{Graph, Starts, Reached}
 use Rattle.rehearsal.specs.Runs.{Told, World}
 
@@ -140,11 +140,6 @@ Tells = List Object → (roots : List ℕ) → (handle : ℕ) → Bool
 abbrev pub Right : Table → Tells → Type 0
 Right T tells = (os : List Object) (roots : List ℕ) (x : ℕ) → (tells os roots x ≡ true) ↔ Reached (chains T os) (from roots) x
 
--- those for which a test passes, in order
-unfoldable pub those : (ℕ → Bool) → List Object → List Object
-those test [] = []
-those test (o ∷ os) = let rest = those test os in if test o.handle then (o ∷ rest) else rest
-
 abbrev pub untraceable : Option (List ℕ) → Bool
 untraceable none = true
 untraceable (some hs) = false
@@ -161,13 +156,13 @@ numbers = map (λ (o : Object). index_of o.handle)
 -- the ages of some numbers step; the list's first is number i
 unfoldable pub older : (numbers : List ℕ) (i : ℕ) → List ℕ → List ℕ
 older is i [] = []
-older is i (a ∷ more) = (if member i is then step a else a) ∷ older is (suc i) more
+older is i (a ∷ more) = (if has is i then step a else a) ∷ older is (suc i) more
 
 -- what is not kept goes: its numbers are free, in the order of the objects, but for those that now have the last age
 abbrev pub left : (ℕ → Bool) → Machine → Machine
 left keep m =
-    let kept : List Object = those keep m.objects in
-    let gone : List ℕ = numbers (those (λ x. not (keep x)) m.objects) in
+    let kept : List Object = filter (λ (o : Object). keep o.handle) m.objects in
+    let gone : List ℕ = numbers (filter (λ (o : Object). not (keep o.handle)) m.objects) in
     let ages : List ℕ = older gone 0 m.ages in
     record { objects = kept; ages = ages; free = m.free ++ filter (λ i. not (eqb (get_or ages i 0) last_generation)) gone; since = 0; survived = sizes kept }
 

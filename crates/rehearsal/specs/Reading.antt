@@ -20,11 +20,6 @@ read_store t = store_format.read t >>= λ r. give (store r.0.0 r.0.1.0 r.0.1.1) 
 unfoldable pub read_drop : Reader Line
 read_drop t = (number 64 newline).read t >>= λ r. give (drop r.0) r.1
 
--- after a name its fields are read; without it, something else
-abbrev pub named : Option (List ℕ) → Reader Line → Option (Line × List ℕ) → Option (Line × List ℕ)
-named none fields other = other
-named (some t) fields other = fields t
-
 unfoldable pub read_line : Reader Line
 read_line t =
     named (read_literal (ascii "alloc,") t) read_alloc

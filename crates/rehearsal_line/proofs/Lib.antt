@@ -1,2 +1,2 @@
-pub mod Leading
-pub mod Lined
+pub mod StatesBetweenLines
+pub mod LineParts

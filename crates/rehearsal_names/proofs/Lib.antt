@@ -1,3 +1,3 @@
 pub mod Rising
 pub mod Naming
-pub mod Squeezing
+pub mod EntriesMoved

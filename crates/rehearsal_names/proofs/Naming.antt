@@ -13,7 +13,7 @@ use Rattle.std.specs.Prelude.{if◌then◌else◌}
 use Rattle.word.specs.Run.{run}
 use Rattle.word.proofs.Bools.{and_both}
 use Rattle.word.proofs.RunLaws.{run-get, length_run, run-set, run-below}
-use Rattle.heap_calls.specs.Pins.{rising_from}
+use Rattle.word.specs.Lists.{rising_from}
 use Rattle.rehearsal.specs.Runs.{Held as Name, held_at, without, handles}
 use Rattle.rehearsal_names.specs.Inner.Names.{name, entries, kept, entries_in, named, answer_of, Names, Gone, Absent}
 use Rattle.rehearsal_names.specs.Inner.Moves.{index_in, FoundAt, turns_of}

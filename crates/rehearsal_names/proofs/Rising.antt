@@ -15,17 +15,11 @@ use Rattle.std.specs.Ordering.{nat_cmp}
 use Rattle.std.specs.List.Sorted.{IsBinarySearchResult}
 use Rattle.std.proofs.lemmas.List.Sorted.{searched}
 use Rattle.word.proofs.Bools.{and_both, both-and}
-use Rattle.heap_calls.specs.Pins.{rising_from}
+use Rattle.word.proofs.RisingLaws.{rising-lower, rising-low, rising-weakly}
+use Rattle.word.specs.Lists.{rising_from}
 use Rattle.rehearsal.specs.Runs.{Held as Name}
 use Rattle.rehearsal_names.specs.Inner.Names.{kept}
 use Rattle.rehearsal_names.specs.Inner.Moves.{index_in, FoundAt, turns_of}
-
-pub rising-lower : (lo lo' : ℕ) (xs : List ℕ) → lo ≤ lo' → rising_from lo' xs ≡ true → rising_from lo xs ≡ true
-unfolding rising_from
-rising-lower lo lo' [] le h = refl
-rising-lower lo lo' (x ∷ xs) le h =
-    let p = and_both (leb lo' x) (rising_from (suc x) xs) h in
-    both-and (leb lo x) (rising_from (suc x) xs) (le-leb lo x (omega (arith, leb-true lo' x p.0))) p.1
 
 pub rising-front : (lo : ℕ) (xs ys : List ℕ) → rising_from lo (xs ++ ys) ≡ true → rising_from lo xs ≡ true
 unfolding rising_from
@@ -57,21 +51,13 @@ rising-kept lo (e ∷ es) ys h =
 
 -- ---- where a turn is found
 
-low-at : (lo : ℕ) (xs : List ℕ) → rising_from lo xs ≡ true → (k : ℕ) → k < length xs → lo ≤ get_or xs k 0
-unfolding rising_from
-low-at lo [] h k l = absurd (omega arith)
-low-at lo (x ∷ xs) h zero l = leb-true lo x (and_both (leb lo x) (rising_from (suc x) xs) h).0
-low-at lo (x ∷ xs) h (suc k) l =
-    let p = and_both (leb lo x) (rising_from (suc x) xs) h in
-    omega (arith, low-at (suc x) xs p.1 k (omega arith), leb-true lo x p.0)
-
 pub index_at : (lo : ℕ) (xs : List ℕ) → rising_from lo xs ≡ true → (k : ℕ) → k < length xs → index_in (get_or xs k 0) xs ≡ k
 unfolding rising_from index_in
 index_at lo [] h k l = absurd (omega arith)
 index_at lo (x ∷ xs) h zero l = rw (eq-eqb x x refl)
 index_at lo (x ∷ xs) h (suc k) l =
     let p = and_both (leb lo x) (rising_from (suc x) xs) h in
-    rw (ne_eqb x (get_or xs k 0) (λ e. omega (arith, low-at (suc x) xs p.1 k (omega arith)))) (ap suc (index_at (suc x) xs p.1 k (omega arith)))
+    rw (ne_eqb x (get_or xs k 0) (λ e. omega (arith, rising-low (suc x) xs p.1 k (omega arith)))) (ap suc (index_at (suc x) xs p.1 k (omega arith)))
 
 pub index-none : (x : ℕ) (xs : List ℕ) → ((k : ℕ) → k < length xs → get_or xs k 0 ≡ x → ⊥) → index_in x xs ≡ length xs
 unfolding index_in
@@ -79,14 +65,6 @@ index-none x [] h = refl
 index-none x (y ∷ ys) h = rw (ne_eqb y x (h 0 (omega arith))) (ap suc (index-none x ys (λ k l. h (suc k) (omega arith))))
 
 -- ---- what std's binary search finds
-
-rising-weakly : (lo : ℕ) (xs : List ℕ) → rising_from lo xs ≡ true → (i j : ℕ) → i ≤ j → j < length xs → get_or xs i 0 ≤ get_or xs j 0
-unfolding rising_from
-rising-weakly lo [] h i j le l = absurd (omega arith)
-rising-weakly lo (x ∷ xs) h zero zero le l = omega arith
-rising-weakly lo (x ∷ xs) h zero (suc j) le l = let p = and_both (leb lo x) (rising_from (suc x) xs) h in omega (arith, low-at (suc x) xs p.1 j (omega arith))
-rising-weakly lo (x ∷ xs) h (suc i) zero le l = absurd (omega arith)
-rising-weakly lo (x ∷ xs) h (suc i) (suc j) le l = rising-weakly (suc x) xs (and_both (leb lo x) (rising_from (suc x) xs) h).1 i j (omega arith) (omega arith)
 
 pub found-at : (x : ℕ) (xs : List ℕ) → rising_from 1 xs ≡ true → (r : Outcome ℕ ℕ) → IsBinarySearchResult (λ y. nat_cmp y x) xs r → (o : found.Option ℕ) → o ≡ result_ok r → FoundAt x xs o
 found-at x xs h r found o e = rw e (go r (searched xs x r found (rising-weakly 1 xs h)))

@@ -3,7 +3,7 @@
 #![tactic(auto)]
 
 ghost use Rattle.std.specs.Prelude.{◌≡◌, ◌<◌, true, length, IfSome};
-ghost use Rattle.heap_calls.specs.Pins.{rising_from};
+ghost use Rattle.word.specs.Lists.{rising_from};
 ghost use Rattle.rehearsal.specs.Runs.{held_at};
 ghost use Rattle.rehearsal_names.specs.Inner.Names.{answer_of, named, Names, LetGo, CanHold, Held};
 ghost use Rattle.rehearsal_names.specs.Inner.Moves.{FoundAt, CanMove, moved_to, moved_words, InRoom, Squeezed, Roomy};

@@ -1,26 +1,18 @@
 -- The ways out of the placing of an object whose data a text spells. Assumes nothing.
 use Prim.Native.Nat.{ℕ, ◌+◌, ◌-◌, ◌*◌, ◌/◌, ◌≤◌}
-use native.Mathlib.Omega.{arith}
-use mathlib.Core.Bool.{Bool, true}
-use mathlib.Core.List.{List}
-use mathlib.Core.Path.{◌≡◌, sym, ap, ◌∙◌, subst}
-use lib.ListN.{length, take, drop}
-use Rattle.std.specs.Prelude.{if◌then◌else◌}
+use Rattle.std.specs.Prelude.{if◌then◌else◌, Result as Outcome, Ok, Err, is_err}
 use Rattle.word.specs.Result.{Result, ok, refused}
 use Rattle.handle.specs.Handle.{index_of}
 use Rattle.text.specs.Inner.Answer.{hex_at}
-use Rattle.refusal.specs.Told.{number_of, told, answered, here, nothing}
+use Rattle.refusal.specs.Told.{number_of, told, answered, here, nothing, Reply}
 use Rattle.refusal.specs.declared.Answer.{Answer}
 use Rattle.refusal.specs.declared.Refusal.{Refusal}
-use Rattle.refusal.specs.Told.{Reply}
-use Rattle.std.specs.Prelude.{Result as Outcome, Ok, Err, is_err}
-use Rattle.refusal.proofs.Numbers.{told-once}
+use Rattle.refusal.proofs.Numbers.{never-0}
 use Rattle.heap.specs.State.{State, slot_at, live}
-use Rattle.heap.specs.Packing.{start_of}
 use Rattle.heap.specs.Lent.{Lent, lent, stored, view, slot_count, pool_size}
 use Rattle.heap.specs.declared.Heap.{Heap}
 use Rattle.text.specs.Inner.Puts.{Puts}
-use Rattle.word.specs.Run.{run}
+use Rattle.word.specs.Run.{start_of, run}
 use Rattle.heap.specs.WellFormed.{well_formed}
 use Rattle.heap.specs.Calls.{Changed, refuse, alloc_from}
 use Rattle.heap.specs.Inner.Tells.{Tells}
@@ -38,28 +30,23 @@ use Rattle.script.proofs.Refusing.{Numbered, alloc-numbered}
 use Rattle.rehearsal_place.specs.Inner.Decoding.{Spelled, with_data, CanDecode, Decoded, PlaceDoes}
 use Rattle.rehearsal_place.proofs.Replaced.{Instead, alloc-instead}
 use Rattle.rehearsal_place.proofs.Spelling.{part-long, start-can, decode-room, decode-done}
+use native.Mathlib.Omega.{arith}
+use mathlib.Core.Bool.{Bool, true}
+use mathlib.Core.List.{List}
+use mathlib.Core.Path.{◌≡◌, sym, ap, ◌∙◌, subst}
+use lib.ListN.{length, take, drop}
 
 -- ---- what a reply says
 
 pub data-spelled : (s : List ℕ) (a : AllocLine) → DataThere s a → Spelled s a.from a.count
 data-spelled s a d = record { parsed = d.parsed; counted = d.counted }
 
-abbrev code : Reply → ℕ
-code (Ok (a, b)) = 0
-code (Err why) = 1
-
-pub apart : {X : Type 0} (why : Refusal) → number_of why ≡ 0 → X
-apart why e =
-    let t : told (Err why) ≡ told (Ok (0, 0)) = ap (λ (k : ℕ). record { number = k; first = 0; second = 0 }) e in
-    let z : ◌≡◌ {A = ℕ} 1 0 = ap code (told-once (Err why) (Ok (0, 0)) t) in
-    absurd (omega arith)
-
 pub is_ok : {x y : ℕ} (a : Result ℕ) → Numbered a → told (Ok (x, y)) ≡ answered here nothing a → a ≡ ok x
 is_ok (ok z) n e = ap ok (sym (ap (λ (r : Answer). r.first) e))
 is_ok (refused k) n e = let z : ◌≡◌ {A = ℕ} 0 k = ap (λ (r : Answer). r.number) e in absurd (omega arith)
 
 pub is-refused : (why : Refusal) (a : Result ℕ) → told (Err why) ≡ answered here nothing a → a ≡ refused (number_of why)
-is-refused why (ok z) e = apart why (ap (λ (r : Answer). r.number) e)
+is-refused why (ok z) e = never-0 why (ap (λ (r : Answer). r.number) e)
 is-refused why (refused k) e = ap refused (sym (ap (λ (r : Answer). r.number) e))
 
 from-numbered : (S P k t : ℕ) (bytes : List ℕ) (h : State) → 1 ≤ k → k ≤ 3 → Numbered (alloc_from S P h k t 0 bytes).answer

@@ -8,10 +8,11 @@ use mathlib.Core.Path.{◌≡◌, refl, sym, ap, ◌∙◌, subst}
 use borrow.Author.Tests.{lt-ltb}
 use lib.ListN.{length, set, length-append}
 use lib.Seq.{set-set}
-use Rattle.word.specs.Result.{Result, ok, refused}
+use Rattle.word.specs.Result.{ok, refused}
 use Rattle.handle.specs.Handle.{packed, index_of}
 use Rattle.handle.proofs.HandleLaws.{index-packed}
-use Rattle.heap.specs.Packing.{flat}
+use Rattle.std.specs.List.{concat}
+use Rattle.word.proofs.ResultLaws.{not-refused, not-ok}
 use Rattle.heap.specs.State.{Slot, State, no_slot, slot_at, live, data_of, with_free}
 use Rattle.heap.specs.Calls.{Changed, refuse, charged, placed, grown, last, but_last, allocated, alloc_from, with_slot, step}
 use Rattle.heap.proofs.Sound.{Sound}
@@ -55,12 +56,6 @@ module _ (st : State) (j k t : ℕ) (bytes bytes' : List ℕ) (inside : j < leng
         data-there = ap (λ (s : Slot). s.bytes) there;
       }
 
-pub not-refused : {X : Type 0} {n x : ℕ} → ◌≡◌ {A = Result ℕ} (refused n) (ok x) → X
-not-refused e = let z : ◌≡◌ {A = ℕ} 0 1 = cc in absurd (omega arith)
-
-pub not-ok : {X : Type 0} {n x : ℕ} → ◌≡◌ {A = Result ℕ} (ok x) (refused n) → X
-not-ok e = let z : ◌≡◌ {A = ℕ} 0 1 = cc in absurd (omega arith)
-
 module _ (S P : ℕ) (h : State) (fine : Sound S P h) (k t : ℕ) (bytes bytes' : List ℕ) (same : length bytes' ≡ length bytes) (low : 1 ≤ k) where
   abbrev rich : List ℕ → State
   rich bs = charged h (length bs + 32)
@@ -79,7 +74,7 @@ module _ (S P : ℕ) (h : State) (fine : Sound S P h) (k t : ℕ) (bytes bytes' 
 
   pub alloc-instead : Into (alloc_from S P h k t 0 bytes) (alloc_from S P h k t 0 bytes')
   alloc-instead =
-      elim (dec_lt P (length (flat (data_of h.slots)) + length bytes)) [
+      elim (dec_lt P (length (concat (data_of h.slots)) + length bytes)) [
         | yes y ↦ by_equal _ _ _ _ (alloc-none S P h k t 0 bytes y) (alloc-none S P h k t 0 bytes' (omega (arith, same))) ((λ x e. not-refused e), λ n e. refl)
         | no y ↦ elim (dec_lt 0 (length h.free)) [
           | yes f ↦ by_equal _ _ _ _ (alloc-free S P h k t 0 bytes (omega arith) f) (alloc-free S P h k t 0 bytes' (omega (arith, same)) f ∙ ap (λ (n : ℕ). placed (with_free (charged h (n + 32)) (but_last h.free)) (last h.free) k t 0 bytes') same)

@@ -1,20 +1,12 @@
 -- Data that a text spells, decoded over the data of a slot. Assumes nothing.
 use Prim.Native.Nat.{ℕ, ◌+◌, ◌-◌, ◌*◌, ◌/◌, ◌≤◌, ◌<◌}
-use native.Mathlib.Omega.{arith}
-use mathlib.Core.Bool.{true}
-use mathlib.Core.List.{List, ◌∷◌}
-use mathlib.Core.Path.{◌≡◌, refl, sym, ap, ◌∙◌, subst}
-use lib.ListN.{length, take, drop, length-append, length-drop}
-use lib.Seq.{length-take-le}
-use borrow.Author.Tests.{ltb-true}
 use Rattle.word.specs.Put.{put}
-use Rattle.word.specs.Run.{run}
+use Rattle.word.specs.Run.{run, start_of}
 use Rattle.word.proofs.PutLaws.{put_whole}
 use Rattle.text.specs.Text.{hex, newline}
 use Rattle.text.specs.Inner.Puts.{Puts}
 use Rattle.text.specs.Inner.Answer.{hex_at}
 use Rattle.text.proofs.Laws.{hex-back, hex-length}
-use Rattle.heap.specs.Packing.{start_of}
 use Rattle.heap.specs.State.{Slot, State, slot_at, live}
 use Rattle.heap.specs.Lent.{Lent, lent, view, slot_count, pool_size}
 use Rattle.heap.specs.WellFormed.{well_formed}
@@ -24,6 +16,13 @@ use Rattle.heap.proofs.Keeping.{live_inside, slot-sound, leaves}
 use Rattle.heap.proofs.Columns.{formed, sizes, reads, generation-is, kind-is, type-is, start_is, writes-is}
 use Rattle.heap_edit.proofs.Replacing.{stays, SlotData, slot-lies, written-data}
 use Rattle.rehearsal_place.specs.Inner.Decoding.{Spelled, with_bytes, with_data, CanDecode, Decoded}
+use native.Mathlib.Omega.{arith}
+use mathlib.Core.Bool.{true}
+use mathlib.Core.List.{List, ◌∷◌}
+use mathlib.Core.Path.{◌≡◌, refl, sym, ap, ◌∙◌, subst}
+use lib.ListN.{length, take, drop, length-append, length-drop}
+use lib.Seq.{length-take-le}
+use borrow.Author.Tests.{ltb-true}
 
 -- ---- a text that spells n bytes has 2 n + 1
 

@@ -1,10 +1,5 @@
 -- A new heap to begin with, and the loop over the thresholds. Assumes nothing.
 use Prim.Native.Nat.{ℕ, zero, ◌+◌, ◌*◌, ◌/◌, ◌^◌, ◌≤◌, ◌<◌}
-use native.Mathlib.Omega.{arith}
-use mathlib.Core.Bool.{true}
-use mathlib.Core.List.{List, [], ◌∷◌, ◌++◌, append_assoc, append-nil}
-use mathlib.Core.Path.{◌≡◌, refl, sym, ap, ◌∙◌}
-use lib.ListN.{length, get_or, drop, length-append, drop_of_length-le}
 use Rattle.std.specs.Prelude.{None}
 use Rattle.word.specs.Run.{run}
 use Rattle.word.proofs.ListLaws.{drop-cons-one}
@@ -20,7 +15,6 @@ use Rattle.heap.specs.Calls.{new}
 use Rattle.heap.proofs.Storing.{view-stored}
 use Rattle.heap.proofs.Testing.{formed-tested}
 use Rattle.object_door.proofs.Making.{made-formed}
-use Rattle.heap_calls.specs.Pins.{rising_from}
 use Rattle.collection.specs.Swept.{live_size}
 use Rattle.rehearsal.specs.Lines.{Line}
 use Rattle.rehearsal.specs.Runs.{Run, Figures, starting, rehearsed, figures_line, figures_text}
@@ -35,6 +29,12 @@ use Rattle.rehearsal_steps.specs.Inner.Going.{ended, InOrder, Goes}
 use Rattle.rehearsal_runs.specs.Runs.{lines_of, run_of, memory_after}
 use Rattle.rehearsal_runs.specs.Inner.Runs.{Begun, LentRoom, figures_in, CanPut, Rehearses}
 use Rattle.rehearsal_runs.proofs.Running.{Sizes as Same}
+use Rattle.word.specs.Lists.{rising_from}
+use native.Mathlib.Omega.{arith}
+use mathlib.Core.Bool.{true}
+use mathlib.Core.List.{List, [], ◌∷◌, ◌++◌, append_assoc, append-nil}
+use mathlib.Core.Path.{◌≡◌, refl, sym, ap, ◌∙◌}
+use lib.ListN.{length, get_or, drop, length-append, drop_of_length-le}
 
 -- ---- at the start
 

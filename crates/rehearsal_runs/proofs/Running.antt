@@ -1,12 +1,5 @@
 -- The loop over a text's lines: those done have led to where the rehearsal is, and the rest is left. Assumes nothing.
 use Prim.Native.Nat.{ℕ, ◌+◌, ◌*◌, ◌/◌, ◌^◌, ◌≤◌, ◌<◌}
-use native.Mathlib.Omega.{arith}
-use mathlib.Core.Bool.{true, false}
-use mathlib.Core.List.{List, [], ◌∷◌, ◌++◌, append_assoc, append-nil}
-use mathlib.Core.Option.{Option, none, some}
-use mathlib.Core.Path.{◌≡◌, refl, sym, ap, ◌∙◌, subst}
-use lib.ListN.{length, drop, length-append, length-drop}
-use Rattle.std.specs.Prelude as found
 use Rattle.word.proofs.Bools.{true-false}
 use Rattle.text.specs.Text.{ascii, line}
 use Rattle.text.proofs.Laws.{none-not-some, some_inj, bind-some}
@@ -25,9 +18,16 @@ use Rattle.rehearsal_steps.specs.declared.Going.{Going}
 use Rattle.rehearsal_steps.specs.Inner.Going.{going_on, InOrder, Short, Cleared, Led, Goes}
 use Rattle.rehearsal_steps.specs.Inner.Steps.{doing_in}
 use Rattle.rehearsal_steps.proofs.Placed.{not-ended}
-use Rattle.rehearsal_line.proofs.Leading.{led-line}
 use Rattle.rehearsal_runs.specs.Runs.{or_none, lines_of, run_of}
 use Rattle.rehearsal_runs.specs.Inner.Runs.{Begun}
+use Rattle.rehearsal_line.proofs.StatesBetweenLines.{led-line}
+use native.Mathlib.Omega.{arith}
+use mathlib.Core.Bool.{true, false}
+use mathlib.Core.List.{List, [], ◌∷◌, ◌++◌, append_assoc, append-nil}
+use mathlib.Core.Option.{Option, none, some}
+use mathlib.Core.Path.{◌≡◌, refl, sym, ap, ◌∙◌, subst}
+use lib.ListN.{length, drop, length-append, length-drop}
+use Rattle.std.specs.Prelude as found
 
 -- lists of the same lengths
 pub record Sizes (n₀ n₁ w₀ w₁ p₀ p₁ a₀ a₁ m₀ m₁ k₀ k₁ : List ℕ) : Type 0 where

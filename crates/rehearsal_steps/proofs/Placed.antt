@@ -1,16 +1,10 @@
 -- The ways out of an allocation. Assumes nothing.
 use Prim.Native.Nat.{ℕ, ◌+◌, ◌^◌, ◌<◌, max}
-use native.Mathlib.Omega.{arith}
-use mathlib.Core.Bool.{true, false}
-use mathlib.Core.List.{List}
-use mathlib.Core.Path.{◌≡◌, refl, sym, ap, ◌∙◌, subst}
-use lib.ListN.{length}
 use Rattle.word.specs.Result.{Result, ok, refused}
 use Rattle.word.specs.Run.{run}
 use Rattle.std.specs.Prelude.{Option, Some, None, Ok, Err, is_some}
-use Rattle.refusal.specs.Told.{number_of, told, here, nothing}
+use Rattle.refusal.specs.Told.{number_of, told, here, nothing, Reply}
 use Rattle.refusal.specs.declared.Refusal.{Refusal}
-use Rattle.refusal.specs.Told.{Reply}
 use Rattle.heap.specs.State.{State}
 use Rattle.heap.specs.Lent.{Lent, stored, view, slot_count, pool_size}
 use Rattle.heap.specs.Calls.{Changed}
@@ -22,7 +16,7 @@ use Rattle.heap.proofs.Carrying.{kept-sizes}
 use Rattle.object_door.specs.ObjectCalls.{allocating as alloc_call}
 use Rattle.object_door.proofs.Objects.{allocating-sound}
 use Rattle.script.proofs.Refusing.{alloc-numbered}
-use Rattle.rehearsal_place.proofs.Answering.{apart, is_ok, is-refused}
+use Rattle.rehearsal_place.proofs.Answering.{is_ok, is-refused}
 use Rattle.collection.specs.Swept.{live_size}
 use Rattle.rehearsal.specs.Runs.{placed, allocating}
 use Rattle.rehearsal.specs.OnHeap.{heaped}
@@ -32,11 +26,17 @@ use Rattle.rehearsal_steps.specs.declared.Going.{Going}
 use Rattle.rehearsal_steps.specs.Inner.Going.{ended, going_on, ended_by, InOrder, Goes}
 use Rattle.rehearsal_steps.specs.Inner.Steps.{no_types, CanHoldMore, allocating_in}
 use Rattle.rehearsal_steps.proofs.Sums.{Sums, alloc-sums}
+use Rattle.refusal.proofs.Numbers.{never-0}
+use native.Mathlib.Omega.{arith}
+use mathlib.Core.Bool.{true, false}
+use mathlib.Core.List.{List}
+use mathlib.Core.Path.{◌≡◌, refl, sym, ap, ◌∙◌, subst}
+use lib.ListN.{length}
 
 -- what has ended it, and its number
 pub not-ended : {X : Type 0} (o : Option Refusal) → is_some o ≡ true → ended o ≡ 0 → X
 not-ended None e z = absurd (let w : ◌≡◌ {A = ℕ} 0 1 = cc in omega arith)
-not-ended (Some why) e z = apart why z
+not-ended (Some why) e z = never-0 why z
 
 pub still-open : (o : Option Refusal) → is_some o ≡ false → o ≡ None
 still-open None e = refl

@@ -10,7 +10,7 @@ use borrow.Author.Tests.{lt-ltb}
 use lib.Seq.{get_or_at}
 use Rattle.std.specs.Prelude.{if◌then◌else◌}
 use Rattle.word.specs.Result.{ok, refused}
-use Rattle.heap.specs.Packing.{flat}
+use Rattle.std.specs.List.{concat}
 use Rattle.heap.specs.State.{Slot, State, no_slot, slot_at, live, data_of, bit, times, with_free}
 use Rattle.heap.specs.Calls.{Changed, refuse, charged, placed, grown, last, but_last, allocated, alloc_from}
 use Rattle.heap.proofs.Sound.{Sound}
@@ -20,7 +20,7 @@ use Rattle.object_door.specs.ObjectCalls.{is_kind, allocating}
 use Rattle.object_door.proofs.Objects.{kind-range}
 use Rattle.collection.specs.Swept.{live_size}
 use Rattle.rehearsal.proofs.Allocating.{no-bit}
-use Rattle.rehearsal_place.proofs.Replaced.{not-refused, not-ok}
+use Rattle.word.proofs.ResultLaws.{not-refused, not-ok}
 
 -- a slot counted
 abbrev counts : Slot → ℕ
@@ -66,7 +66,7 @@ module _ (S P : ℕ) (h : State) (fine : Sound S P h) (k t : ℕ) (bytes : List 
 
   from-sums : 1 ≤ k → Sums h bytes (alloc_from S P h k t 0 bytes)
   from-sums low =
-      elim (dec_lt P (length (flat (data_of h.slots)) + length bytes)) [
+      elim (dec_lt P (length (concat (data_of h.slots)) + length bytes)) [
         | yes y ↦ sums_by _ _ (alloc-none S P h k t 0 bytes y) ((λ x e. not-refused e), λ n e. refl)
         | no y ↦ elim (dec_lt 0 (length h.free)) [
           | yes f ↦

@@ -1,20 +1,12 @@
 -- The ways out of a due collection. Assumes nothing.
 use Prim.Native.Nat.{ℕ, ◌+◌, ◌-◌, ◌≤◌, ◌<◌}
-use native.Mathlib.Omega.{arith}
-use mathlib.Core.Bool.{Bool, true, false}
-use mathlib.Core.List.{List, []}
-use mathlib.Core.Option.{Option, none, some}
-use mathlib.Core.Path.{◌≡◌, refl, sym, ap, ◌∙◌, subst}
-use lib.ListN.{length, take, drop}
-use Rattle.std.specs.Prelude.{if◌then◌else◌}
+use Rattle.std.specs.Prelude.{if◌then◌else◌, Ok, Err, is_err, IsOk}
 use Rattle.word.specs.Result.{Result, ok, refused}
 use Rattle.word.specs.Run.{run}
 use Rattle.word.proofs.RunLaws.{run-part, length_run}
-use Rattle.refusal.specs.Told.{told, answered, nothing}
+use Rattle.refusal.specs.Told.{told, answered, nothing, Reply}
 use Rattle.refusal.specs.declared.Answer.{Answer}
 use Rattle.refusal.specs.declared.Refusal.TheVariants.{Untraceable}
-use Rattle.refusal.specs.Told.{Reply}
-use Rattle.std.specs.Prelude.{Ok, Err, is_err, IsOk}
 use Rattle.ty.specs.Types.{Table}
 use Rattle.heap.specs.State.{State}
 use Rattle.heap.specs.Lent.{Lent, stored, view, slot_count, pool_size}
@@ -22,7 +14,6 @@ use Rattle.heap.specs.Calls.{Changed, gc_due}
 use Rattle.heap.specs.Inner.Tells.{Tells}
 use Rattle.heap.proofs.Storing.{view-stored, slots-stored}
 use Rattle.heap.proofs.Testing.{formed-tested}
-use Rattle.heap_calls.specs.Pins.{rising_from}
 use Rattle.reach.specs.Marking.{State as Marks, marking}
 use Rattle.collection.specs.Swept.{live_size, swept}
 use Rattle.collection.specs.Shown.{shown}
@@ -30,7 +21,6 @@ use Rattle.collection.specs.Collected.{graph, starts}
 use Rattle.collection.specs.Collecting.{swept_by, collected}
 use Rattle.collection.proofs.SweptLaws.{swept-live}
 use Rattle.collect.specs.Collect.{collecting as collect_call}
-use Rattle.collect.specs.Inner.Finished.{CanCollect}
 use Rattle.rehearsal.specs.Runs.{handles, Run, World, collecting, swept as swept_run}
 use Rattle.rehearsal.specs.OnHeap.{heaped, collects_heap, left}
 use Rattle.rehearsal_names.specs.Inner.Names.{entries_in, named}
@@ -38,8 +28,16 @@ use Rattle.rehearsal_names.proofs.Naming.{entries-handles}
 use Rattle.rehearsal_steps.specs.declared.Going.{Going}
 use Rattle.rehearsal_steps.specs.Inner.Going.{ended, going_on, ended_by, InOrder, Cleared, Goes}
 use Rattle.rehearsal_steps.specs.Inner.Steps.{collecting_in}
-use Rattle.rehearsal_place.proofs.Answering.{apart}
 use Rattle.rehearsal_steps.proofs.Rooting.{collected-kept}
+use Rattle.word.specs.Lists.{rising_from}
+use Rattle.mark.specs.Inner.Scratch.{CanMark}
+use Rattle.refusal.proofs.Numbers.{never-0}
+use native.Mathlib.Omega.{arith}
+use mathlib.Core.Bool.{Bool, true, false}
+use mathlib.Core.List.{List, []}
+use mathlib.Core.Option.{Option, none, some}
+use mathlib.Core.Path.{◌≡◌, refl, sym, ap, ◌∙◌, subst}
+use lib.ListN.{length, take, drop}
 
 -- ---- what a collection leaves
 
@@ -66,7 +64,7 @@ leaving h (some m) = ((λ n q. was-done n q), λ q. (refl, swept-live h m.marks 
 
 pub says-refused : (reply : Reply) → is_err reply ≡ true → (a : Result Unit) → told reply ≡ answered nothing nothing a → (k : ℕ) × (a ≡ refused k)
 says-refused (Ok (x, y)) o a e = cc o
-says-refused (Err why) o (ok u) e = apart why (ap (λ (r : Answer). r.number) e)
+says-refused (Err why) o (ok u) e = never-0 why (ap (λ (r : Answer). r.number) e)
 says-refused (Err why) o (refused k) e = (k, refl)
 
 pub says-ok : (reply : Reply) → IsOk reply → (a : Result Unit) → told reply ≡ answered nothing nothing a → ((k : ℕ) → a ≡ refused k → 0 < k) → a ≡ ok tt
@@ -79,7 +77,7 @@ unfolding view
 live-shown l = refl
 
 module _ {l : Lent} {words : List ℕ} {g : Going} (order : InOrder l words g) where
-  pub can-collect : {marks work : List ℕ} → Cleared (slot_count l) marks work → CanCollect l [] marks work
+  pub can-collect : {marks work : List ℕ} → Cleared (slot_count l) marks work → CanMark l [] marks work
   unfolding rising_from
   can-collect c = record { formed = order.formed; rises = refl; marks_clear = c.marks_clear; marks_room = c.marks_room; work_clear = c.work_clear; work_room = c.work_room }
 

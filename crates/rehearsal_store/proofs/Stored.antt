@@ -1,22 +1,13 @@
 -- The ways out of a store. Assumes nothing.
 use Prim.Native.Nat.{ℕ, ◌+◌}
-use native.Mathlib.Omega.{arith}
-use native.Mathlib.Decide.{dec_lt}
-use mathlib.Core.Bool.{Bool, true, false}
-use mathlib.Core.List.{List, [], ◌∷◌}
-use mathlib.Core.Option.{Option, none, some}
-use mathlib.Core.Path.{◌≡◌, refl, sym, ap, ◌∙◌, subst}
-use lib.ListN.{length}
 use Rattle.word.specs.Le.{bytes as bytes_of}
 use Rattle.word.specs.Put.{put}
 use Rattle.word.specs.Result.{Result, ok, refused}
 use Rattle.word.specs.Run.{run}
 use Rattle.word.proofs.PutLaws.{length-put}
-use Rattle.refusal.specs.Told.{told, answered, here, nothing}
+use Rattle.refusal.specs.Told.{told, answered, here, nothing, Reply}
 use Rattle.refusal.specs.declared.Refusal.TheVariants.{NothingThere}
-use Rattle.refusal.specs.Told.{Reply}
 use Rattle.std.specs.Prelude.{Ok, Err, is_err, is_ok, IsOk, is_some}
-use Rattle.std.specs.Prelude as code
 use Rattle.heap.specs.State.{Slot, State, slot_at, live}
 use Rattle.heap.specs.Lent.{Lent, lent, stored, view, slot_count, pool_size}
 use Rattle.heap.specs.WellFormed.{well_formed}
@@ -25,7 +16,6 @@ use Rattle.heap.specs.Inner.Tells.{Tells}
 use Rattle.heap.proofs.Storing.{view-stored}
 use Rattle.heap.proofs.Testing.{formed-tested}
 use Rattle.heap.proofs.Keeping.{live_inside}
-use Rattle.heap_edit.proofs.Soundness.{resolved_live}
 use Rattle.heap_edit.proofs.Cases.{write-beyond, write_done}
 use Rattle.collection.specs.Swept.{live_size}
 use Rattle.rehearsal.specs.Runs.{Run, held_at, storing, wrote, ends}
@@ -39,6 +29,15 @@ use Rattle.rehearsal_steps.specs.Inner.Going.{ended, going_on, ended_by, InOrder
 use Rattle.rehearsal_steps.specs.Inner.Steps.{no_types, StoresInto, after_drop, Dropped, storing_in}
 use Rattle.rehearsal_steps.proofs.Sums.{size_same}
 use Rattle.rehearsal_steps.proofs.Swept.{same_number, not_done, was-done, says-refused, says-ok}
+use Rattle.heap.proofs.LiveSlots.{resolved_live}
+use native.Mathlib.Omega.{arith}
+use native.Mathlib.Decide.{dec_lt}
+use mathlib.Core.Bool.{Bool, true, false}
+use mathlib.Core.List.{List, [], ◌∷◌}
+use mathlib.Core.Option.{Option, none, some}
+use mathlib.Core.Path.{◌≡◌, refl, sym, ap, ◌∙◌, subst}
+use lib.ListN.{length}
+use Rattle.std.specs.Prelude as code
 
 -- ---- the call
 

@@ -3,10 +3,6 @@ use mathlib.Core.Path.{◌≡◌, refl, sym, ap, ◌∙◌}
 use mathlib.Core.Bool.{Bool, true, false, ◌&&◌}
 use mathlib.Core.List.{List, [], ◌∷◌, map}
 use Prim.Native.Nat.{ℕ, ◌/◌, ◌≤◌, ◌<◌}
-use native.Mathlib.Omega.{arith}
-use lib.Dec.{leb}
-use lib.ListN.{length, get_or, replicate, length-replicate}
-use borrow.Author.Tests.{le-leb, lt-leb, leb-true}
 use Rattle.word.proofs.Bools.{and_both}
 use Rattle.word.specs.Result.{ok}
 use Rattle.text.specs.Put.{put_text}
@@ -20,19 +16,21 @@ use Rattle.heap.specs.Lent.{Lent, lent, slot_count, pool_size}
 use Rattle.heap.specs.Sizes.{sizes_fit}
 use Rattle.heap.specs.declared.Heap.{Heap}
 use Rattle.heap.proofs.Sizes.{Sizes, sizes-tested}
-use Rattle.door.specs.HeapCalls.{Test, admitted, whether, zeros, scratch_after, outcome_of}
+use Rattle.door.specs.HeapCalls.{Test, whether, zeros, scratch_after, outcome_of, Entry, ready}
 use Rattle.door.specs.Inner.Entered.{Entered}
-use Rattle.door.specs.HeapCalls.{Entry}
-use Rattle.door.specs.HeapCalls.{ready}
-use Rattle.door.proofs.Entering.{fails, passes, cleared-in, holding, whether-not, whether-ready}
+use Rattle.door.proofs.Entering.{fails, passes, cleared-in, holding, whether-not, whether-ready, none_left}
 use Rattle.object_door.specs.ObjectCalls.{handed}
 use Rattle.rehearsal.specs.Reading.{is_text}
 use Rattle.rehearsal.specs.Machine.{plain}
 use Rattle.rehearsal.proofs.Theorem.{text-theorem}
-use Rattle.rehearsal_place.proofs.Answering.{apart}
 use Rattle.rehearsal_runs.specs.Runs.{lines_of, memory_after}
 use Rattle.rehearsal_runs.specs.Inner.Runs.{CanRehearse, Rehearses}
 use Rattle.rehearse_door.specs.Rehearse.{Given, table_in, plenty, roomy, rehearse_tests, figures_by, rehearse_call, PlainLines}
+use Rattle.refusal.proofs.Numbers.{never-0}
+use native.Mathlib.Omega.{arith}
+use lib.Dec.{leb}
+use lib.ListN.{length, get_or, replicate, length-replicate}
+use borrow.Author.Tests.{le-leb, lt-leb, leb-true}
 
 -- ---- scratch
 
@@ -64,10 +62,6 @@ unfolding roomy
 roomy-tested n o e = leb-true n (o / 80) e
 
 -- ---- the tests
-
-none_left : ready ≡ admitted []
-unfolding admitted
-none_left = refl
 
 module _ (g : Given) (narrow wide pool out : ℕ) (w m k : List ℕ) where
   abbrev S : ℕ
@@ -176,4 +170,4 @@ module _ (g : Given) (h : Heap) (narrow wide pool out w m k : List ℕ) {w' m' k
 
     -- a refusal is no success
     pub plain-refused : {out' : List ℕ} → PlainLines g (length narrow) (length pool) answer out out'
-    plain-refused z = apart why (sym (ap (λ (a : Answer). a.number) t) ∙ z)
+    plain-refused z = never-0 why (sym (ap (λ (a : Answer). a.number) t) ∙ z)

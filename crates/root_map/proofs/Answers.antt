@@ -12,7 +12,7 @@ use Rattle.word.specs.Put.{put}
 use Rattle.flow.specs.Function.{safepoint, safepoints}
 use Rattle.refusal.specs.Told.{answered, refused_by}
 use Rattle.refusal.specs.declared.Answer.{Answer}
-use Rattle.roots.specs.Calls.{Lent, function, right, need, after, scratch_after, registers_at}
+use Rattle.roots.specs.Calls.{Lent, function, right, need, after, rows_after, registers_at}
 use Rattle.roots.specs.Inner.Columns.{wanted}
 use Rattle.roots.specs.Inner.Plans.{planned}
 use Rattle.roots.specs.declared.Tracked.{Tracked}
@@ -42,7 +42,7 @@ module _ (l : Lent) (t : ℕ → Bool) where
     abbrev reply : Result Size
     reply = live_refs_answer l t (length pcs) (length bounds) (length regs) (length rows)
 
-    refuse : (rows' : List ℕ) → rows' ≡ scratch_after l rows → (n : ℕ) → reply ≡ refused n → LiveRefsCall l t pcs bounds regs rows pcs bounds regs rows' (refused_by n)
+    refuse : (rows' : List ℕ) → rows' ≡ rows_after l rows → (n : ℕ) → reply ≡ refused n → LiveRefsCall l t pcs bounds regs rows pcs bounds regs rows' (refused_by n)
     refuse rows' z n e = record {
       answer = sym (ap (answered points_in registers_in) e);
       points = sym (ap (λ (u : Result Size). after u pcs (put pcs 0 points (length points))) e);
@@ -52,12 +52,12 @@ module _ (l : Lent) (t : ℕ → Bool) where
     }
 
     pub refs-scratch : length rows < need l → LiveRefsCall l t pcs bounds regs rows pcs bounds regs rows (refused_by 18)
-    unfolding live_refs_answer scratch_after
+    unfolding live_refs_answer rows_after
     refs-scratch h = let e = lt-ltb (length rows) (need l) h in refuse rows (sym (yes-then _ _ _ e)) 18 (yes-then _ _ _ e)
 
     module _ (room : need l ≤ length rows) (rows' : List ℕ) (clean : rows' ≡ replicate (length rows) 0) where
-      scratch-is : rows' ≡ scratch_after l rows
-      unfolding scratch_after
+      scratch-is : rows' ≡ rows_after l rows
+      unfolding rows_after
       scratch-is = clean ∙ sym (no-then _ _ _ (le-ltb (length rows) (need l) room))
 
       pub refs-function : right l ≡ false → LiveRefsCall l t pcs bounds regs rows pcs bounds regs rows' (refused_by 15)

@@ -6,7 +6,7 @@ use Rattle.word.specs.Put.{put}
 use Rattle.refusal.specs.Told.{answered}
 use Rattle.refusal.specs.declared.Answer.{Answer}
 use Rattle.flow.specs.Function.{safepoints}
-use Rattle.roots.specs.Calls.{Lent, function, right, need, after, scratch_after, registers_at}
+use Rattle.roots.specs.Calls.{Lent, function, right, need, after, rows_after, registers_at}
 
 -- where the registers of each end, if the first begin at `from`
 abbrev pub limits : (ℕ → List ℕ) → ℕ → List ℕ → List ℕ
@@ -47,4 +47,4 @@ pub record LiveRefsCall (l : Lent) (asked : ℕ → Bool) (pcs bounds regs rows 
   pub limits_are : bounds' ≡ after (live_refs_answer l asked (length pcs) (length bounds) (length regs) (length rows)) bounds
       (put bounds 0 (limits (registers_at l asked) 0 (points_of l)) (length (points_of l)))
   pub registers : regs' ≡ after (live_refs_answer l asked (length pcs) (length bounds) (length regs) (length rows)) regs (put regs 0 (registers_of l asked) (length (registers_of l asked)))
-  pub scratch : rows' ≡ scratch_after l rows
+  pub scratch : rows' ≡ rows_after l rows

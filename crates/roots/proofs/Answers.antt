@@ -30,7 +30,7 @@ use Rattle.word.proofs.ChunkLaws.{pair-parts}
 use Rattle.flow.proofs.Lists.{passing-same, some_at, at_some}
 use Rattle.flow.proofs.Validity.{held, holder-is, holds_parts, parts-holds, safepoint-held, row_list, map-unique}
 use Rattle.roots.specs.View.{view, formed}
-use Rattle.roots.specs.Calls.{Lent, function, right, need, after, scratch_after, registers_at, live_at_answer, LiveAtCall}
+use Rattle.roots.specs.Calls.{Lent, function, right, need, after, rows_after, registers_at, live_at_answer, LiveAtCall}
 use Rattle.roots.specs.Inner.Columns.{seen, cell, live_at, Fixed, Found}
 use Rattle.roots.proofs.Turns.{inst-view}
 use Rattle.roots.proofs.Steps.{part-cell}
@@ -135,16 +135,16 @@ module _ (l : Lent) (t : ℕ → Bool) where
     abbrev left : Result ℕ → List ℕ
     left u = after u regs (put regs 0 (registers_at l t pc) (length (registers_at l t pc)))
 
-    refuse : (rows' : List ℕ) (n : ℕ) → reply ≡ refused n → rows' ≡ scratch_after l rows → LiveAtCall l t pc regs rows regs rows' (refused_by n)
+    refuse : (rows' : List ℕ) (n : ℕ) → reply ≡ refused n → rows' ≡ rows_after l rows → LiveAtCall l t pc regs rows regs rows' (refused_by n)
     refuse rows' n e z = record { answer = sym (ap (answered here nothing) e); registers = sym (ap left e); scratch = z }
 
     pub at-scratch : length rows < need l → LiveAtCall l t pc regs rows regs rows (refused_by 18)
-    unfolding live_at_answer scratch_after
+    unfolding live_at_answer rows_after
     at-scratch h = let e = lt-ltb (length rows) (need l) h in refuse rows 18 (yes-then _ _ _ e) (sym (yes-then _ _ _ e))
 
     module _ (room : need l ≤ length rows) (rows' : List ℕ) (clean : rows' ≡ replicate (length rows) 0) where
-      scratch-is : rows' ≡ scratch_after l rows
-      unfolding scratch_after
+      scratch-is : rows' ≡ rows_after l rows
+      unfolding rows_after
       scratch-is = clean ∙ sym (no-then _ _ _ (le-ltb (length rows) (need l) room))
 
       pub at-function : right l ≡ false → LiveAtCall l t pc regs rows regs rows' (refused_by 15)

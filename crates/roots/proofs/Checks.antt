@@ -20,7 +20,8 @@ use Rattle.word.specs.Lists.{all, all_below}
 use Rattle.word.proofs.ListLaws.{all-at, at_all, get_d_tabulate, below_at, at-below}
 use Rattle.word.proofs.ChunkLaws.{every-at, pair-parts}
 use Rattle.flow.proofs.Validity.{apart-one, one_apart}
-use Rattle.roots.specs.View.{start_of, inst_at, view, formed}
+use Rattle.roots.specs.View.{inst_at, view, formed}
+use Rattle.word.specs.Run.{start_of}
 use Rattle.roots.specs.Inner.Columns.{Lists, In, Separate, AtMost, Inside}
 use Rattle.roots.proofs.Forms.{formed-parts, parts-formed, blocks-count, code-count, block-at, all-inside, inside-all}
 

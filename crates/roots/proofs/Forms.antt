@@ -17,7 +17,8 @@ use Rattle.word.specs.Lists.{all}
 use Rattle.flow.proofs.Laws.{Disjoint}
 use Rattle.flow.proofs.Tracking.{disjoint-track}
 use Rattle.flow.proofs.Validity.{Valid, valid-parts, parts-valid, valid-disjoint}
-use Rattle.roots.specs.View.{start_of, inst_at, block_at, view, ranged, formed}
+use Rattle.roots.specs.View.{inst_at, block_at, view, ranged, formed}
+use Rattle.word.specs.Run.{start_of}
 use Rattle.roots.specs.Inner.Columns.{seen, Lists, Columns}
 
 -- ---- the ends never fall

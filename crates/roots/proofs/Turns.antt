@@ -10,13 +10,15 @@ use lib.Seq.{slice, slice-cons, slice_empty}
 use lib.Dec.{eqb, ltb}
 use borrow.Author.Tests.{eqb-true, eq-eqb, lt-ltb, ltb-true}
 use Rattle.rows.specs.Inner.Row.{bit_in}
-use Rattle.flow.specs.Function.{Function, Instruction, has, inst, reads, writes}
+use Rattle.flow.specs.Function.{Function, Instruction, inst, reads, writes}
+use Rattle.word.specs.Lists.{has}
 use Rattle.flow.specs.Dataflow.{turn, back, killed, asked, only}
 use Rattle.word.proofs.Bools.{and_both, bool-ext, and-false}
 use Rattle.word.proofs.ListLaws.{get_d_tabulate}
 use Rattle.flow.proofs.Laws.{back-open, back_none}
 use Rattle.flow.proofs.Tracking.{inst-track, reads-track, writes-track}
-use Rattle.roots.specs.View.{start_of, list_at, inst_at, view}
+use Rattle.roots.specs.View.{list_at, inst_at, view}
+use Rattle.word.specs.Run.{start_of}
 use Rattle.roots.specs.Inner.Columns.{wanted, seen, Lists}
 use Rattle.roots.specs.declared.Tracked.{Tracked}
 use Rattle.roots.specs.declared.Tracked.TheVariants.{References}

@@ -34,8 +34,8 @@ after (ok a) old new = new
 after (refused n) old new = old
 
 -- scratch is zero after all but 18
-unfoldable pub scratch_after : Lent → List ℕ → List ℕ
-scratch_after l rows = if ltb (length rows) (need l) then rows else replicate (length rows) 0
+unfoldable pub rows_after : Lent → List ℕ → List ℕ
+rows_after l rows = if ltb (length rows) (need l) then rows else replicate (length rows) 0
 
 -- the registers live before instruction pc whose class passes the test, rising
 abbrev pub registers_at : Lent → (asked : ℕ → Bool) → ℕ → List ℕ
@@ -56,4 +56,4 @@ live_at_answer l asked pc room rows =
 pub record LiveAtCall (l : Lent) (asked : ℕ → Bool) (pc : ℕ) (regs rows regs' rows' : List ℕ) (r : Answer) : Type 0 where
   pub answer : r ≡ answered here nothing (live_at_answer l asked pc (length regs) (length rows))
   pub registers : regs' ≡ after (live_at_answer l asked pc (length regs) (length rows)) regs (put regs 0 (registers_at l asked pc) (length (registers_at l asked pc)))
-  pub scratch : rows' ≡ scratch_after l rows
+  pub scratch : rows' ≡ rows_after l rows

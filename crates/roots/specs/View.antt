@@ -1,13 +1,10 @@
 -- The lent columns read as a function. `kinds` has an entry an instruction; `ends` three: where its registers written, its registers read and its
 -- target blocks end in `refs`, each list starting where the one before ends. `blocks` has two entries a block, start and end; `classes` one a register.
-use Rattle.std.specs.Prelude.{Bool, true, ◌&&◌, List, [], ◌∷◌, ℕ, zero, suc, ◌+◌, ◌*◌, ◌/◌, ◌%◌, leb, eqb, length, get_or}
+use Rattle.std.specs.Prelude.{Bool, true, ◌&&◌, List, [], ◌∷◌, ℕ, ◌+◌, ◌*◌, ◌/◌, ◌%◌, leb, eqb, length, get_or}
 use Rattle.std.proofs.Math.Seq.{slice}
 use Rattle.word.specs.Lists.{tabulate}
+use Rattle.word.specs.Run.{start_of}
 use Rattle.flow.specs.Function.{Function, Instruction, Block, valid}
-
-abbrev pub start_of : List ℕ → ℕ → ℕ
-start_of ends zero = 0
-start_of ends (suc k) = get_or ends k 0
 
 -- list k of all the lists
 abbrev pub list_at : List ℕ → List ℕ → ℕ → List ℕ

@@ -2,9 +2,10 @@
 // Kept: a row is a part of the scratch that is lent on, so that it has room for all registers is a clause of each step, and so is the range of instructions, which is another one for each block.
 ghost use Rattle.std.specs.Prelude.{◌≡◌, true, false, not, ◌&&◌, ◌||◌, List, ℕ, ◌+◌, ◌-◌, ◌*◌, ◌≤◌, ◌<◌, length};
 ghost use Rattle.rows.specs.Inner.Row.{bit_in};
-ghost use Rattle.flow.specs.Function.{has, reads, writes};
+ghost use Rattle.flow.specs.Function.{reads, writes};
+ghost use Rattle.word.specs.Lists.{has};
 ghost use Rattle.flow.specs.Dataflow.{turn, back, killed, asked};
-ghost use Rattle.roots.specs.View.{start_of};
+ghost use Rattle.word.specs.Run.{start_of};
 ghost use Rattle.roots.specs.Inner.Columns.{wanted};
 ghost use Rattle.roots.specs.Inner.Plans.{part_seen};
 

@@ -4,19 +4,17 @@ use mathlib.Core.Path.{◌≡◌, sym, ap, ap₂, ◌∙◌}
 use mathlib.Core.Bool.{Bool, true, false}
 use mathlib.Core.List.{List, [], ◌∷◌, ◌++◌}
 use Prim.Native.Nat.{ℕ, zero, suc, ◌+◌, ◌-◌, ◌*◌, ◌^◌, ◌≤◌, ◌<◌}
+use Rattle.word.specs.Ones.{keep, passing}
+use Rattle.word.specs.Inner.Ones.{ones_from}
+use Rattle.word.proofs.OnesLaws.{passing-append, passing-ones, ones_none, ones-next, less-one-digit}
+use Rattle.rows.specs.Inner.Row.{bit_in, listed}
+use Rattle.rows.proofs.RowLaws.{bit_in-word}
 use native.Mathlib.Nat.{add-mul, one-mul, zero-mul}
 use native.Mathlib.Decide.{dec_lt}
 use native.Mathlib.Omega.{arith}
 use lib.Bits.{bit_and}
 use lib.Count.{count_trailing_zeros}
-use lib.ListN.{length, get_or, set, get_or-eq_default}
-use Rattle.word.specs.Ones.{keep, passing}
-use Rattle.word.specs.Inner.Ones.{ones_from}
-use Rattle.word.specs.Put.{put}
-use Rattle.word.proofs.OnesLaws.{passing-append, passing-ones, ones_none, ones-next, less-one-digit}
-use Rattle.word.proofs.PutLaws.{put-none, copy-turn}
-use Rattle.rows.specs.Inner.Row.{bit_in, listed}
-use Rattle.rows.proofs.RowLaws.{bit_in-word}
+use lib.ListN.{length, get_or, get_or-eq_default}
 
 -- the set bits of the words from i on
 unfoldable pub after : (W : ℕ) (row : List ℕ) (i : ℕ) → List ℕ
@@ -92,10 +90,3 @@ module _ (W : ℕ) (row : List ℕ) where
   pub none_left : (i rest : ℕ) → length row ≤ i → rest ≡ 0 → leftover W row i rest ≡ []
   unfolding leftover
   none_left i rest h z = ap₂ ◌++◌ (ap (λ (x : ℕ). ones_from W x (i * W)) z ∙ ones_none W (i * W)) (after-end (i + 1) (omega arith))
-
--- a list of one element
-pub put_one : (d : List ℕ) (n v : ℕ) → n < length d → set d n v ≡ put d n (v ∷ []) 1
-put_one d n v h = ap (λ (k : ℕ). set d k v) (sym (at_zero n)) ∙ copy-turn d d n (v ∷ []) 0 0 (put-none d n (v ∷ [])) (omega arith) (omega arith)
-  where
-    at_zero : (n : ℕ) → n + 0 ≡ n
-    at_zero n = omega arith

@@ -3,6 +3,15 @@ use mathlib.Core.Path.{◌≡◌, refl, sym, ap, ap₂, ◌∙◌, subst}
 use mathlib.Core.Bool.{true, false}
 use mathlib.Core.List.{List, [], ◌∷◌, ◌++◌, append_assoc, append-nil}
 use Prim.Native.Nat.{ℕ, zero, suc, ◌+◌, ◌-◌, ◌*◌, ◌/◌, ◌%◌, ◌^◌, ◌≤◌, ◌<◌}
+use Rattle.std.specs.Prelude.{Option, Some, None, is_some}
+use Rattle.word.specs.Ones.{keep, passing}
+use Rattle.word.specs.Inner.Ones.{ones_from}
+use Rattle.word.specs.Put.{put}
+use Rattle.word.proofs.OnesLaws.{ones_none}
+use Rattle.word.proofs.PutLaws.{put-none, put-put, put_one}
+use Rattle.rows.specs.Inner.Row.{bit_in, listed}
+use Rattle.rows.specs.Inner.Turns.{left, turns_left, Stands, Turned}
+use Rattle.rows.proofs.Listing.{after, leftover, whole, all_left, none_left}
 use native.Mathlib.Nat.{zero-add, add-zero, add-suc, suc-add, add-mul, one-mul, zero-mul, pow-suc, div-one, div-eq_of_lt, div-mul-le_self, div-add-mod', mul-div_cancel, mul-le-mul_right, le_of_mul-le-mul_right, mul-mod_left, zero-div, zero-mod}
 use native.Mathlib.Decide.{dec_lt}
 use native.Mathlib.Omega.{arith}
@@ -12,15 +21,6 @@ use lib.Count.{count_trailing_zeros, under}
 use lib.Dec.{eqb}
 use lib.ListN.{length, get_or, set, length-append, length-set, get_or-eq_default}
 use lib.Pow.{pow-lt, shr_lt, shr_le, shr-shr}
-use Rattle.std.specs.Prelude.{Option, Some, None, is_some}
-use Rattle.word.specs.Ones.{keep, passing}
-use Rattle.word.specs.Inner.Ones.{ones_from}
-use Rattle.word.specs.Put.{put}
-use Rattle.word.proofs.OnesLaws.{ones_none}
-use Rattle.word.proofs.PutLaws.{put-none, put-put}
-use Rattle.rows.specs.Inner.Row.{bit_in, listed}
-use Rattle.rows.specs.Inner.Turns.{left, turns_left, Stands, Turned}
-use Rattle.rows.proofs.Listing.{after, leftover, whole, all_left, none_left, put_one}
 
 -- ---- the lowest set digit of a number, and the digits above it
 

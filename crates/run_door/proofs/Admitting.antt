@@ -3,27 +3,24 @@ use mathlib.Core.Path.{◌≡◌, refl, sym, ap, ◌∙◌}
 use mathlib.Core.Bool.{Bool, true, false, ◌&&◌}
 use mathlib.Core.List.{List, [], ◌∷◌, map}
 use Prim.Native.Nat.{ℕ, ◌≤◌, ◌<◌}
+use Rattle.word.proofs.Bools.{and_both}
+use Rattle.refusal.specs.Told.{told, nothing, Reply}
+use Rattle.refusal.specs.declared.Answer.{Answer}
+use Rattle.refusal.specs.declared.Refusal.TheVariants.{BrokenHeap, Page, Scratch}
+use Rattle.heap.specs.Lent.{Lent, view, slot_count, pool_size}
+use Rattle.heap.specs.WellFormed.{well_formed}
+use Rattle.heap.specs.Inner.Tells.{Tells}
+use Rattle.door.specs.HeapCalls.{test, admitted, enough, heap_tests, zeros, scratch_after, outcome_of, Entry, ready}
+use Rattle.door.specs.Inner.Entered.{Entered}
+use Rattle.std.specs.Prelude.{Err}
+use Rattle.door.proofs.Entering.{fails, passes, holding, cleared-in, call-cleared, fits-is}
+use Rattle.script.specs.Script.{begins_call, run_script}
+use Rattle.run_door.specs.Run.{run_tests, run_call}
+use Rattle.run_door.proofs.Answering.{CanRun}
 use native.Mathlib.Omega.{arith}
 use lib.Dec.{leb}
 use lib.ListN.{length, drop, replicate}
 use borrow.Author.Tests.{le-leb, lt-leb, leb-true}
-use Rattle.word.proofs.Bools.{and_both}
-use Rattle.refusal.specs.Told.{told, nothing}
-use Rattle.refusal.specs.declared.Answer.{Answer}
-use Rattle.refusal.specs.declared.Refusal.TheVariants.{BrokenHeap, Page, Scratch}
-use Rattle.refusal.specs.Told.{Reply}
-use Rattle.heap.specs.Lent.{Lent, view, slot_count, pool_size}
-use Rattle.heap.specs.WellFormed.{well_formed}
-use Rattle.heap.specs.Inner.Tells.{Tells}
-use Rattle.door.specs.HeapCalls.{test, admitted, enough, heap_tests, zeros, scratch_after, outcome_of}
-use Rattle.door.specs.Inner.Entered.{Entered}
-use Rattle.door.specs.HeapCalls.{Entry}
-use Rattle.std.specs.Prelude.{Err}
-use Rattle.door.specs.HeapCalls.{ready}
-use Rattle.door.proofs.Entering.{fails, passes, holding, cleared-in, call-cleared}
-use Rattle.script.specs.Script.{begins_call, run_script}
-use Rattle.run_door.specs.Run.{run_tests, run_call}
-use Rattle.run_door.proofs.Answering.{CanRun}
 
 and-false : (a b : Bool) → b ≡ false → (a && b) ≡ false
 and-false true b e = e
@@ -40,16 +37,12 @@ module _ (room m w : List ℕ) (l : Lent) (t : List ℕ) where
   no_room h = record { found = fails _ _ _ (and-false (enough m w l) (leb (pool_size l) (length room)) (lt-leb (pool_size l) (length room) h)); left = refl }
 
   module _ {u : Bool} (v : u ≡ (leb (slot_count l) (length m) && leb (slot_count l) (length w))) where
-    fits-is : u ≡ enough m w l
-    unfolding enough
-    fits-is = v
-
     pub no-scratch : u ≡ false → Entered (room ∷ m ∷ w ∷ []) (run_tests room m w l t) (Err Scratch) (room ∷ m ∷ w ∷ [])
-    no-scratch e = record { found = fails _ _ _ (ap (λ (b : Bool). b && leb (pool_size l) (length room)) (sym fits-is ∙ e)); left = refl }
+    no-scratch e = record { found = fails _ _ _ (ap (λ (b : Bool). b && leb (pool_size l) (length room)) (sym (fits-is m w l v) ∙ e)); left = refl }
 
     module _ (h : pool_size l ≤ length room) (i : u ≡ true) where
       is-enough : enough m w l ≡ true
-      is-enough = sym fits-is ∙ i
+      is-enough = sym (fits-is m w l v) ∙ i
 
       all_there : (enough m w l && leb (pool_size l) (length room)) ≡ true
       all_there = simp (is-enough, le-leb (pool_size l) (length room) h)

@@ -3,14 +3,11 @@ use mathlib.Core.Path.{◌≡◌, refl, ap}
 use mathlib.Core.List.{List}
 use lib.ListN.{length}
 use Prim.Native.Nat.{ℕ, ◌≤◌}
-use native.Mathlib.Omega.{arith}
 use Rattle.word.specs.Result.{Result, ok, refused}
-use Rattle.refusal.specs.Told.{number_of, told, answered, nothing}
+use Rattle.refusal.specs.Told.{number_of, told, answered, nothing, Reply}
 use Rattle.refusal.specs.declared.Answer.{Answer}
-use Rattle.refusal.specs.declared.Refusal.{Refusal}
-use Rattle.refusal.specs.Told.{Reply}
 use Rattle.std.specs.Prelude.{true, Ok, Err, is_err, IsOk}
-use Rattle.refusal.proofs.Numbers.{told-once}
+use Rattle.refusal.proofs.Numbers.{never-0}
 use Rattle.heap.specs.Lent.{Lent, pool_size}
 use Rattle.heap.specs.WellFormed.{well_formed}
 use Rattle.heap.specs.Calls.{Changed}
@@ -18,27 +15,20 @@ use Rattle.heap.specs.Inner.Tells.{Does, Tells}
 use Rattle.script.specs.Script.{silent}
 use Rattle.script.proofs.Refusing.{Numbered}
 use Rattle.run_door.specs.Inner.Steps.{end_of}
+use native.Mathlib.Omega.{arith}
 
 -- a heap that is well formed, with room for the data of any object
 pub record CanRun (l : Lent) (lent-room : List ℕ) : Type 0 where
   pub formed : well_formed l ≡ true
   pub room : pool_size l ≤ length lent-room
 
-abbrev code : Reply → ℕ
-code (Ok (a, b)) = 0
-code (Err why) = 1
-
 abbrev number_in : Answer → ℕ
 number_in a = a.number
-
--- a refusal does not tell what a success tells
-apart : {X : Type 0} (why : Refusal) → told (Err why) ≡ told (Ok (0, 0)) → X
-apart why e = let z : ◌≡◌ {A = ℕ} 1 0 = ap code (told-once (Err why) (Ok (0, 0)) e) in absurd (omega arith)
 
 pub ends_as : {A : Type 0} (f g : A → ℕ) (r : Reply) (x : Result A) → Numbered x → told r ≡ answered f g x → end_of r ≡ silent x
 ends_as f g (Ok (a, b)) (ok y) n e = refl
 ends_as f g (Ok (a, b)) (refused k) n e = let z : ◌≡◌ {A = ℕ} 0 k = ap number_in e in absurd (omega arith)
-ends_as f g (Err why) (ok y) n e = let z : number_of why ≡ 0 = ap number_in e in apart why (ap (λ (k : ℕ). record { number = k; first = 0; second = 0 }) z)
+ends_as f g (Err why) (ok y) n e = let z : number_of why ≡ 0 = ap number_in e in never-0 why z
 ends_as f g (Err why) (refused k) n e = ap refused (ap number_in e)
 
 pub silent-unit : (x : Result Unit) → silent x ≡ x

@@ -4,15 +4,11 @@ use mathlib.Core.Bool.{true}
 use mathlib.Core.List.{List, []}
 use mathlib.Core.Option.{Option, none, some}
 use Prim.Native.Nat.{ℕ, ◌+◌, ◌≤◌, ◌<◌}
-use native.Mathlib.Omega.{arith}
-use lib.ListN.{length, get_or, drop, length-drop}
-use Rattle.std.specs.Prelude as found
 use Rattle.word.proofs.ListLaws.{drop-cons-one}
 use Rattle.text.specs.Reading.{give}
 use Rattle.word.specs.Result.{Result, ok, refused}
-use Rattle.refusal.specs.Told.{nothing}
+use Rattle.refusal.specs.Told.{nothing, Reply}
 use Rattle.refusal.specs.declared.Refusal.TheVariants.{Page}
-use Rattle.refusal.specs.Told.{Reply}
 use Rattle.std.specs.Prelude.{Ok, Err}
 use Rattle.heap.specs.State.{State}
 use Rattle.heap.specs.Lent.{Lent, view, slot_count, pool_size}
@@ -26,8 +22,7 @@ use Rattle.heap.proofs.Keeping.{take-sound}
 use Rattle.heap.proofs.Recycled.{recycle-sound}
 use Rattle.heap.proofs.Carrying.{kept-sizes}
 use Rattle.heap.proofs.Testing.{formed-tested}
-use Rattle.heap_calls.specs.Pins.{rising_from, rising}
-use Rattle.heap_edit.proofs.Soundness.{resolved_live, seal-sound}
+use Rattle.heap_edit.proofs.Soundness.{seal-sound}
 use Rattle.object_door.specs.ObjectCalls.{recycling}
 use Rattle.object_door.proofs.Objects.{allocating-sound}
 use Rattle.script.specs.Script.{line_does, doing, and_then, run_script}
@@ -41,6 +36,11 @@ use Rattle.script.proofs.Scripts.{call-shorter, run_call, run-bad}
 use Rattle.script.proofs.Refusing.{free-numbered}
 use Rattle.run_door.specs.Inner.Steps.{end_of, LineEnds}
 use Rattle.run_door.proofs.Answering.{CanRun, ends_as, silent-unit}
+use Rattle.word.specs.Lists.{rising_from, rising}
+use Rattle.heap.proofs.LiveSlots.{resolved_live}
+use native.Mathlib.Omega.{arith}
+use lib.ListN.{length, get_or, drop, length-drop}
+use Rattle.std.specs.Prelude as found
 
 pub no_pins : rising [] ≡ true
 unfolding rising_from

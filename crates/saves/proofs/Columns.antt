@@ -6,7 +6,9 @@ use mathlib.Core.List.{List}
 use lib.ListN.{length, get_or, take, drop, length-map, get_or-map, get_or-eq_default}
 use native.Mathlib.Decide.{dec_lt}
 use native.Mathlib.Omega.{arith}
-use Rattle.heap.specs.Packing.{pad, flat, ends, start_of, data_at}
+use Rattle.heap.specs.Packing.{pad, ends, data_at}
+use Rattle.std.specs.List.{concat}
+use Rattle.word.specs.Run.{start_of}
 use Rattle.heap.specs.State.{Slot, State, no_slot, slot_at, data_of}
 use Rattle.heap.specs.declared.Heap.{Heap}
 use Rattle.heap.specs.Lent.{Lent, lent, stored, view, slot_in, slot_count, pool_size}
@@ -37,13 +39,13 @@ slot-any S P h i =
     n-data : length (data_of h.slots) ≡ length h.slots
     n-data = length-map h.slots (λ (s : Slot). s.bytes)
 
-    bytes : Dec (i < length h.slots) → data_at (pad S (ends 0 (data_of h.slots))) (pad P (flat (data_of h.slots))) i ≡ (slot_at h i).bytes
+    bytes : Dec (i < length h.slots) → data_at (pad S (ends 0 (data_of h.slots))) (pad P (concat (data_of h.slots))) i ≡ (slot_at h i).bytes
     bytes (yes l) = data-at S P (data_of h.slots) i (omega (arith, n-data)) ∙ get_or-map (λ (s : Slot). s.bytes) h.slots i no_slot
     bytes (no l) =
         let end = pad S (ends 0 (data_of h.slots)) in
         let e : get_or end i 0 ≡ 0 = get_or-pad-past S (ends 0 (data_of h.slots)) i (omega (arith, n-data, length-ends 0 (data_of h.slots))) in
         let z : get_or end i 0 - start_of end i ≡ 0 = omega arith in
-        ap (λ (m : ℕ). take m (drop (start_of end i) (pad P (flat (data_of h.slots))))) z ∙ sym (ap (λ (s : Slot). s.bytes) (get_or-eq_default h.slots no_slot (omega arith)))
+        ap (λ (m : ℕ). take m (drop (start_of end i) (pad P (concat (data_of h.slots))))) z ∙ sym (ap (λ (s : Slot). s.bytes) (get_or-eq_default h.slots no_slot (omega arith)))
 
 module _ (h : Heap) (narrow wide pool : List ℕ) (wf : well_formed (lent h narrow wide pool) ≡ true) (T : Table) where
   abbrev l : Lent

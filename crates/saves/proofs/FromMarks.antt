@@ -14,12 +14,12 @@ use Rattle.reach.specs.Marking.{State, nothing, follow_all, drained}
 use Rattle.collection.proofs.Demand.{found_ok}
 use Rattle.mark.specs.Inner.Graph.{leads_to, shown_in, graph_in}
 use Rattle.mark.specs.Inner.Scratch.{low, state_of, Traces, seeded_from}
-use Rattle.mark.proofs.Inside.{resolves-in}
+use Rattle.mark.proofs.ResolvedInside.{resolves-in}
 use Rattle.alike.specs.Same.{Model, shown, Traceable, Slots}
 use Rattle.alike.specs.Same.{Untraceable as Stops}
 use Rattle.alike.specs.Order.{met}
 use Rattle.alike.proofs.FirstMet.{marks-met, marks-stuck}
-use Rattle.models.proofs.Front.{object-shown}
+use Rattle.models.proofs.DescriptorFirst.{object-shown}
 use Rattle.saves.specs.Inner.Columns.{columns_model}
 
 module _ (T : Table) (tag slots S : ℕ) (narrow wide pool : List ℕ) where

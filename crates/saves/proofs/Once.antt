@@ -11,22 +11,14 @@ use Rattle.std.specs.Prelude.{Ok, Err, if◌then◌else◌}
 use Rattle.std.specs.declared.cmp.Ordering.{Ordering}
 use Rattle.std.specs.declared.cmp.Ordering.TheVariants.{Less, Equal, Greater}
 use Rattle.word.specs.Result.{Result, ok, refused}
-use Rattle.refusal.specs.Told.{Reply, number_of, refused_by, answered, nothing}
+use Rattle.refusal.specs.Told.{number_of, refused_by, answered, nothing}
 use Rattle.refusal.specs.declared.Answer.{Answer}
-use Rattle.refusal.specs.declared.Refusal.{Refusal}
-use Rattle.refusal.proofs.Numbers.{told-once}
+use Rattle.refusal.proofs.Numbers.{never-0}
 use Rattle.reach.specs.Marking.{State as Marks}
 use Rattle.heap.specs.Lent.{view}
 use Rattle.door.specs.HeapCalls.{Entry, admitted, whether, asking, asked_of, scratch_after}
 use Rattle.saves.specs.Saves.{marked, both_traced, ordering, same_number, order_number, table_in, save_tests}
 use Rattle.saves.specs.Once.{ComparingTold, ComparingZero, OrderOnce, same_found, SameOnce}
-
--- no refusal has the number of success, whose numbers would be those of two zeros
-never-0 : (why : Refusal) → ◌≢◌ {A = Result Ordering} (refused (number_of why)) (refused 0)
-never-0 why e =
-    let z : number_of why ≡ 0 = cc in
-    let same : ◌≡◌ {A = Reply} (Err why) (Ok (0, 0)) = told-once (Err why) (Ok (0, 0)) (ap refused_by z) in
-    let y : ◌≡◌ {A = ℕ} 0 1 = cc in omega (arith, y)
 
 traced-numbered : (m n : Option Marks) (o : Ordering) → both_traced m n o ≢ refused 0
 traced-numbered none n o e = let z : ◌≡◌ {A = ℕ} 13 0 = cc in omega (arith, z)
@@ -35,7 +27,7 @@ traced-numbered (some m) (some n) o e = let z : ◌≡◌ {A = ℕ} 0 1 = cc in 
 
 either-numbered : (e : Entry) (r : Result Ordering) → r ≢ refused 0 → whether e (λ why. refused (number_of why)) r ≢ refused 0
 either-numbered (Ok _) r n = n
-either-numbered (Err why) r n = never-0 why
+either-numbered (Err why) r n e = never-0 why (let z : number_of why ≡ 0 = cc in z)
 
 either-told : (numbered : Ordering → ℕ) (e : Entry) (r : Result Ordering) (scratch cleared : List (List ℕ))
     → (whether e (λ why. asked_of (refused_by (number_of why)) (scratch_after (Err why) scratch)) (asked_of (answered numbered nothing r) cleared)).answer

@@ -1,8 +1,7 @@
 -- THE THEOREM of [5] for the two calls: whatever satisfies their equations is right. Assumes nothing.
 use Prim.Native.Nat.{ℕ}
-use mathlib.Core.Path.{◌≡◌, refl, sym, ap, ◌∙◌, subst}
+use mathlib.Core.Path.{◌≡◌, refl, sym, ap, ◌∙◌}
 use mathlib.Core.Logic.{◌⊎◌, inl, inr, ⊎_elim, ◌↔◌}
-use mathlib.Core.Bool.{Bool, true, false}
 use mathlib.Core.List.{List}
 use native.Mathlib.Omega.{arith}
 use Rattle.std.specs.Prelude.{if◌then◌else◌}
@@ -12,59 +11,26 @@ use Rattle.word.specs.Result.{Result, ok, refused}
 use Rattle.refusal.specs.Told.{number_of, told, answered, nothing}
 use Rattle.refusal.specs.declared.Answer.{Answer}
 use Rattle.refusal.specs.declared.Refusal.{Refusal}
-use Rattle.refusal.specs.declared.Refusal.TheVariants.{BrokenHeap, TypeTable, Scratch, Untraceable as CannotTrace}
+use Rattle.refusal.specs.declared.Refusal.TheVariants.{Untraceable as CannotTrace}
 use Rattle.std.specs.Prelude.{Ok, Err}
-use Rattle.ty.specs.Check.{table_good}
 use Rattle.heap.specs.State.{State}
 use Rattle.heap.specs.Lent.{view}
-use Rattle.heap.specs.WellFormed.{well_formed}
-use Rattle.door.specs.HeapCalls.{admitted, enough, Asked, asked_of}
+use Rattle.door.specs.HeapCalls.{admitted, Asked, asked_of}
 use Rattle.door.specs.HeapCalls.{Entry}
-use Rattle.door.specs.HeapCalls.{ready}
-use Rattle.door.proofs.Entering.{apart, asking-not, asking-ready, same-why}
+use Rattle.refusal.proofs.Numbers.{never-0, number}
+use Rattle.door.proofs.Entering.{apart, among, asking-not, asking-ready}
 use Rattle.alike.specs.Same.{Untraceable}
 use Rattle.alike.proofs.FirstMet.{traced-or-not}
 use Rattle.saves.specs.Saves.{ordering, same_number, order_number, Save, Words, table_in, save_tests, scratch_of, comparing, same_call, order_call}
 use Rattle.saves.specs.Right.{model_in, Admitted, Compared, Stops, Yes, RightSame, RightOrder}
 use Rattle.saves.proofs.Turning.{ordered, by_ordering, ordered-equal}
 
--- ---- numbers
-
-pub number : {a b : Answer} → a ≡ b → a.number ≡ b.number
-number e = ap (λ (x : Answer). x.number) e
-
-pub first : {a b : Answer} → a ≡ b → a.first ≡ b.first
-first e = ap (λ (x : Answer). x.first) e
-
--- neither done nor 13
+-- not 13
 abbrev pub Early : Refusal → Type 0
-Early why = (number_of why ≡ 0 → ⊥) × (number_of why ≡ 13 → ⊥)
-
-is-early : (x why : Refusal) → Early x → ◌≡◌ {A = Entry} (Err x) (Err why) → Early why
-is-early x why p q = subst Early (same-why q) p
-
-of-scratch : Early Scratch
-of-scratch = (λ e. omega arith, λ e. omega arith)
-
-of-heap : Early BrokenHeap
-of-heap = (λ e. omega arith, λ e. omega arith)
-
-of-table : Early TypeTable
-of-table = (λ e. omega arith, λ e. omega arith)
-
-first-fails : (a b c d e : Bool) (why : Refusal)
-    → (if a then (if b then (if c then (if d then (if e then ready else Err TypeTable) else Err BrokenHeap) else Err BrokenHeap) else Err Scratch) else Err Scratch) ≡ Err why → Early why
-first-fails false b c d e why q = is-early Scratch why of-scratch q
-first-fails true false c d e why q = is-early Scratch why of-scratch q
-first-fails true true false d e why q = is-early BrokenHeap why of-heap q
-first-fails true true true false e why q = is-early BrokenHeap why of-heap q
-first-fails true true true true false why q = is-early TypeTable why of-table q
-first-fails true true true true true why q = apart (sym q)
+Early why = number_of why ≡ 13 → ⊥
 
 pub early : (w : Words) (s t : Save) (why : Refusal) → admitted (save_tests w s t) ≡ Err why → Early why
-unfolding admitted
-early w s t why q =
-    first-fails (enough s.marks s.work s.heap) (enough t.marks t.work t.heap) (well_formed s.heap) (well_formed t.heap) (table_good w.types w.fields w.consts w.bytes) why q
+early w s t why q = among Early (save_tests w s t) (λ e. omega arith, (λ e. omega arith, (λ e. omega arith, (λ e. omega arith, (λ e. omega arith, tt))))) why q
 
 -- ---- the three ways of an answer that satisfies the equation: refused by a test, 13, or the number of the order
 
@@ -111,14 +77,14 @@ module _ (w : Words) (s t : Save) where
     pub told-compared : (x : ℕ) → a ≡ told (Ok (x, 0)) → Compared w s t × (numbered order_in ≡ x)
     told-compared x q =
         by_call
-        (λ why i r. absurd ((early w s t why i).0 (sym (number r) ∙ number q)))
+        (λ why i r. never-0 why (sym (number r) ∙ number q))
         (λ i u r. let z : ◌≡◌ {A = ℕ} 13 0 = sym (number r) ∙ number q in absurd (omega arith))
         (λ d r. (d, sym (first r) ∙ first q))
 
     pub stops : Stops w s t a
     stops = (
       λ q. by_call
-          (λ why i r. absurd ((early w s t why i).1 (sym (number r) ∙ number q)))
+          (λ why i r. absurd (early w s t why i (sym (number r) ∙ number q)))
           (λ i u r. (i, u))
           (λ d r. let z : ◌≡◌ {A = ℕ} 0 13 = sym (number r) ∙ number q in absurd (omega arith)),
       λ q. by_call

@@ -1,10 +1,5 @@
 -- What the code's readers say of a line: one law for each way out. Assumes nothing.
 use Prim.Native.Nat.{ℕ, ◌≤◌, ◌<◌, ◌^◌}
-use mathlib.Core.List.{List, [], ◌∷◌}
-use mathlib.Core.Option as maybe
-use mathlib.Core.Option.{none}
-use mathlib.Core.Path.{◌≡◌, refl, sym, ap, ◌∙◌, subst}
-use lib.ListN.{length, drop}
 use Rattle.text.specs.Text.{ascii, comma, read_literal}
 use Rattle.text.specs.Reading.{give, digit_of, read_hex, read_field}
 use Rattle.text.specs.Format.{number, bytes_line, pair}
@@ -19,14 +14,16 @@ use Rattle.script.specs.declared.AllocLine.{AllocLine}
 use Rattle.script.specs.declared.Line.{Line}
 use Rattle.script.specs.declared.Line.TheVariants.{Alloc, Take, Seal, Recycle}
 use Rattle.script.proofs.Scripts.{begins-call, begins-bad}
+use Rattle.text.proofs.Copying.{hex-is}
+use mathlib.Core.List.{List, [], ◌∷◌}
+use mathlib.Core.Option as maybe
+use mathlib.Core.Option.{none}
+use mathlib.Core.Path.{◌≡◌, refl, sym, ap, ◌∙◌, subst}
+use lib.ListN.{length, drop}
 
 no-comma : digit_of comma ≡ none
 unfolding digit_of
 no-comma = refl
-
-hex-at : (s : List ℕ) (b : ℕ) (bs rest : List ℕ) → read_hex (drop b s) ≡ give bs rest → hex_at s b ≡ bs
-unfolding hex_at
-hex-at s b bs rest e = rw (hex_at, e)
 
 -- ---- `alloc`: type, kind, data
 
@@ -61,7 +58,7 @@ module _ (s : List ℕ) (at : ℕ) (r : Option (ℕ × ℕ)) (e : r ≡ value_an
       unfolding alloc_format pair bytes_line
       alloc-read n c h =
           let x = hex-found s b n c e₃ h in
-          let i : hex_at s b ≡ x.0 = hex-at s b x.0 (drop c s) x.1 in
+          let i : hex_at s b ≡ x.0 = hex-is s b x.0 (drop c s) x.1 in
           record {
             fields = rw (type-read, kind-read, x.1) (ap (λ (bs : List ℕ). give (t, (k, bs)) (drop c s)) (sym i));
             there = record { parsed = record { rest = drop c s; reads = x.1 ∙ ap (λ (bs : List ℕ). give bs (drop c s)) (sym i) }; counted = sym x.2 ∙ ap length (sym i); narrow = type-narrow };

@@ -1,5 +1,10 @@
 -- The lines of a text; a call's line is one. Assumes nothing.
 use Prim.Native.Nat.{ℕ, zero, suc, ◌+◌, ◌/◌, ◌%◌, ◌≤◌, ◌<◌}
+use Rattle.text.specs.Text.{ascii, newline, comma, decimal, hex, line, All}
+use Rattle.text.proofs.Laws.{decimal-one, decimal-more, hex-digit-above}
+use Rattle.script.specs.Script.{onto, lines, ends_line}
+use Rattle.script.specs.Calls.{Call, alloc, take, seal, recycle, call_line}
+use Rattle.std.specs.List.{concat}
 use mathlib.Core.Bool.{Bool, true, false}
 use mathlib.Core.List.{List, [], ◌∷◌, ◌++◌, append_assoc}
 use mathlib.Core.Path.{◌≡◌, refl, sym, ap, ◌∙◌}
@@ -7,28 +12,22 @@ use lib.Dec.{eqb, ltb}
 use lib.ListN.{length, length-append}
 use native.Mathlib.Omega.{arith}
 use borrow.Author.Tests.{ne_eqb, ltb-true, ltb-false}
-use Rattle.text.specs.Text.{ascii, newline, comma, decimal, hex, line, All}
-use Rattle.text.proofs.Laws.{decimal-one, decimal-more, hex-digit-above}
-use Rattle.heap.specs.Packing.{flat}
-use Rattle.script.specs.Script.{onto, lines, ends_line}
-use Rattle.script.specs.Calls.{Call, alloc, take, seal, recycle, call_line}
 
 -- ---- lines and text
 
-onto-flat : (b : ℕ) (ls : List (List ℕ)) → flat (onto b ls) ≡ b ∷ flat ls
-unfolding flat
-onto-flat b [] = refl
-onto-flat b (l ∷ ls) = refl
+onto-concat : (b : ℕ) (ls : List (List ℕ)) → concat (onto b ls) ≡ b ∷ concat ls
+onto-concat b [] = refl
+onto-concat b (l ∷ ls) = refl
 
 -- a text is its lines in a row
-pub lines-flat : (t : List ℕ) → flat (lines t) ≡ t
-unfolding lines flat
-lines-flat [] = refl
-lines-flat (b ∷ t) = go (eqb b newline) refl (lines-flat t)
+pub lines-concat : (t : List ℕ) → concat (lines t) ≡ t
+unfolding lines
+lines-concat [] = refl
+lines-concat (b ∷ t) = go (eqb b newline) refl (lines-concat t)
   where
-    go : (c : Bool) → eqb b newline ≡ c → flat (lines t) ≡ t → flat (lines (b ∷ t)) ≡ b ∷ t
+    go : (c : Bool) → eqb b newline ≡ c → concat (lines t) ≡ t → concat (lines (b ∷ t)) ≡ b ∷ t
     go true e ih = rw (e, ih)
-    go false e ih = rw e (onto-flat b (lines t) ∙ rw ih)
+    go false e ih = rw e (onto-concat b (lines t) ∙ rw ih)
 
 onto-some : (b : ℕ) (ls : List (List ℕ)) → (l : List ℕ) × (more : List (List ℕ)) × (onto b ls ≡ l ∷ more)
 onto-some b [] = (b ∷ [], [], refl)

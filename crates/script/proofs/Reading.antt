@@ -1,16 +1,16 @@
 -- A call's line reads as that call, and only its line does. Assumes nothing.
 use Prim.Native.Nat.{ℕ, ◌^◌, ◌<◌}
-use mathlib.Core.List.{List, [], ◌∷◌, ◌++◌, append_assoc, append-nil}
-use mathlib.Core.Option.{Option, none, some}
-use mathlib.Core.Path.{◌≡◌, refl, sym, ap, ◌∙◌}
-use mathlib.Core.Logic.{◌↔◌}
 use Rattle.text.specs.Text.{ascii, comma, decimal, digits, line, Bytes, read_literal}
-use Rattle.text.specs.Reading.{Reader, give, ◌>>=◌, digit_of}
+use Rattle.text.specs.Reading.{give, ◌>>=◌, digit_of}
 use Rattle.text.specs.Format.{number, bytes_line, pair}
 use Rattle.text.specs.Inner.Right.{Right}
-use Rattle.text.proofs.Laws.{none-not-some, bind-some, some_inj, literal-forth, literal-back, number-right, bytes-line-right, pair-right}
+use Rattle.text.proofs.Laws.{none-not-some, bind-some, some_inj, literal-forth, literal-back, number-right, bytes-line-right, pair-right, by_name}
 use Rattle.script.specs.Calls.{Call, alloc, take, seal, recycle, call_line, Within}
-use Rattle.script.specs.Reading.{alloc_format, read_alloc, read_take, named, read_call, alone, call_of}
+use Rattle.script.specs.Reading.{alloc_format, read_alloc, read_take, read_call, alone, call_of}
+use mathlib.Core.List.{List, [], ◌∷◌, ◌++◌, append_assoc, append-nil}
+use mathlib.Core.Option.{none, some}
+use mathlib.Core.Path.{◌≡◌, refl, sym, ap, ◌∙◌}
+use mathlib.Core.Logic.{◌↔◌}
 
 no-comma : digit_of comma ≡ none
 unfolding digit_of
@@ -75,11 +75,6 @@ call-forth seal rest h = seal-forth rest
 call-forth recycle rest h = recycle-forth rest
 
 -- ---- back
-
-by_name : {X : Type 0} (o : Option (List ℕ)) (fields : Reader Call) (other : Option (Call × List ℕ)) (c : Call) (rest : List ℕ) → named o fields other ≡ give c rest
-    → ((u : List ℕ) → o ≡ some u → fields u ≡ give c rest → X) → (other ≡ give c rest → X) → X
-by_name none fields other c rest e f g = g e
-by_name (some u) fields other c rest e f g = f u refl e
 
 module _ (t : List ℕ) (c : Call) (rest : List ℕ) where
   -- the line of another call, with another rest

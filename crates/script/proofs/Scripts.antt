@@ -1,22 +1,22 @@
 -- Laws of running a script: its first line, and its parts. Assumes nothing.
 use Prim.Native.Nat.{ℕ, ◌<◌}
+use Rattle.word.specs.Result.{Result, ok, refused}
+use Rattle.text.specs.Reading.{give}
+use Rattle.text.proofs.Laws.{none-not-some}
+use Rattle.heap.specs.State.{State}
+use Rattle.heap.specs.Calls.{Changed, refuse, done}
+use Rattle.script.specs.Script.{lines, first_is_call, is_call, begins_call, ends_line, doing, line_does, unless, and_then, run_lines, run_script}
+use Rattle.script.specs.Calls.{Call, call_line}
+use Rattle.script.specs.Reading.{read_call, call_of}
+use Rattle.script.proofs.Reading.{call-forth, call_back, call-of-line, line-of-call}
+use Rattle.script.proofs.Lining.{call_long, lines-concat, lines-some, lines-append, lines-call}
+use Rattle.std.specs.List.{concat}
 use mathlib.Core.Bool.{true, false}
 use mathlib.Core.List.{List, [], ◌∷◌, ◌++◌}
 use mathlib.Core.Option.{Option, none, some}
 use mathlib.Core.Path.{◌≡◌, refl, sym, ap, ◌∙◌}
 use lib.ListN.{length, length-append}
 use native.Mathlib.Omega.{arith}
-use Rattle.word.specs.Result.{Result, ok, refused}
-use Rattle.text.specs.Reading.{give}
-use Rattle.text.proofs.Laws.{none-not-some}
-use Rattle.heap.specs.State.{State}
-use Rattle.heap.specs.Packing.{flat}
-use Rattle.heap.specs.Calls.{Changed, refuse, done}
-use Rattle.script.specs.Script.{lines, first_is_call, is_call, begins_call, ends_line, doing, line_does, unless, and_then, run_lines, run_script}
-use Rattle.script.specs.Calls.{Call, call_line}
-use Rattle.script.specs.Reading.{read_call, call_of}
-use Rattle.script.proofs.Reading.{call-forth, call_back, call-of-line, line-of-call}
-use Rattle.script.proofs.Lining.{call_long, lines-flat, lines-some, lines-append, lines-call}
 
 -- a call that was read leaves less to read
 pub call-shorter : (t rest : List ℕ) (c : Call) → read_call t ≡ give c rest → length rest < length t
@@ -26,15 +26,14 @@ call-shorter t rest c e = omega (arith, ap length (call_back t c rest e).1, leng
 
 -- the first line of a text that begins with no call's line is no call's
 first-bad : (b : ℕ) (t : List ℕ) → read_call (b ∷ t) ≡ none → (l : List ℕ) (ls : List (List ℕ)) → lines (b ∷ t) ≡ l ∷ ls → call_of l ≡ none
-unfolding flat
 first-bad b t e l ls q = go (call_of l) refl
   where
     go : (o : Option Call) → call_of l ≡ o → call_of l ≡ none
     go none f = f
     go (some c) f =
         let d = line-of-call l c f in
-        let w : call_line c ++ flat ls ≡ b ∷ t = rw d.1 (sym (ap flat q) ∙ lines-flat (b ∷ t)) in
-        absurd (none-not-some (sym e ∙ sym (ap read_call w) ∙ call-forth c (flat ls) d.0))
+        let w : call_line c ++ concat ls ≡ b ∷ t = rw d.1 (sym (ap concat q) ∙ lines-concat (b ∷ t)) in
+        absurd (none-not-some (sym e ∙ sym (ap read_call w) ∙ call-forth c (concat ls) d.0))
 
 pub begins-nothing : (t : List ℕ) → length t ≡ 0 → true ≡ begins_call t
 unfolding begins_call lines

@@ -15,11 +15,6 @@ read_alloc t = alloc_format.read t >>= λ r. give (alloc r.0.0 r.0.1.0 r.0.1.1) 
 unfoldable pub read_take : Reader Call
 read_take t = (number 64 comma).read t >>= λ r. read_literal (ascii "0,\n") r.1 >>= λ u. give (take r.0) u
 
--- after a name its fields are read; without it, something else
-abbrev pub named : Option (List ℕ) → Reader Call → Option (Call × List ℕ) → Option (Call × List ℕ)
-named none fields other = other
-named (some t) fields other = fields t
-
 unfoldable pub read_call : Reader Call
 read_call t =
     named (read_literal (ascii "alloc,") t) read_alloc

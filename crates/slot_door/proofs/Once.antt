@@ -10,7 +10,7 @@ use Rattle.refusal.specs.Told.{Reply, number_of, refused_by}
 use Rattle.refusal.specs.declared.Answer.{Answer}
 use Rattle.refusal.specs.declared.Refusal.{Refusal}
 use Rattle.refusal.specs.declared.Refusal.TheVariants.{BrokenHeap, TypeTable, Scratch, Untraceable}
-use Rattle.refusal.proofs.Numbers.{told-once, number-once}
+use Rattle.refusal.proofs.Numbers.{told-once, number-once, number}
 use Rattle.ty.specs.Check.{table_good}
 use Rattle.ty.specs.View.{table_of}
 use Rattle.heap.specs.Lent.{view}
@@ -19,10 +19,6 @@ use Rattle.door.specs.HeapCalls.{Entry, admitted, whether, enough, ready, asked_
 use Rattle.slot_door.specs.SlotHandles.{slot_tests}
 use Rattle.slot_door.specs.Traceable.{misfit, misfit_told}
 use Rattle.slot_door.specs.Once.{Finding, finding_told, FoundTold, FoundZero, FoundOnce}
-
--- the number of what is told
-number : {a b : Answer} → a ≡ b → a.number ≡ b.number
-number e = ap (λ (a : Answer). a.number) e
 
 -- the number of a test's refusal, 0 where none fails
 abbrev turned : Finding → ℕ

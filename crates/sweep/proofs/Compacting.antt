@@ -14,9 +14,11 @@ use Rattle.word.specs.Put.{put}
 use Rattle.std.specs.Prelude.{if◌then◌else◌}
 use Rattle.word.proofs.ListLaws.{length-tabulate}
 use Rattle.word.proofs.PutLaws.{put-none, length-put, take_put, drop-put}
-use Rattle.heap.specs.Packing.{pad, flat, ends, data_at, start_of}
+use Rattle.heap.specs.Packing.{pad, ends, data_at}
+use Rattle.std.specs.List.{concat}
+use Rattle.word.specs.Run.{start_of}
 use Rattle.heap.specs.Inner.Columns.{datas}
-use Rattle.heap.proofs.Packing.{flat-suc, length-ends, get_or-ends, start-of, end-at, data-at}
+use Rattle.heap.proofs.Packing.{concat-suc, length-ends, get_or-ends, start-of, end-at, data-at}
 use Rattle.heap.proofs.Splicing.{flat-mono}
 use Rattle.sweep.specs.Inner.Columns.{kept, CanCompact, Compacted, kept_size, CanSettle, Settled}
 
@@ -68,10 +70,10 @@ kept_at (k ∷ ks) (d ∷ ds) (suc i) = kept_at ks ds i
 -- after i slots: the data before `to` is done, from `from` on it is as it was
 pub record Packing (n : ℕ) (ks E Q : List ℕ) (i from to : ℕ) (end pool : List ℕ) : Type 0 where
   pub few : i ≤ n
-  pub from_is : from ≡ length (flat (take i (datas n E Q)))
-  pub to_is : to ≡ length (flat (take i (kept ks (datas n E Q))))
+  pub from_is : from ≡ length (concat (take i (datas n E Q)))
+  pub to_is : to ≡ length (concat (take i (kept ks (datas n E Q))))
   pub low : to ≤ from
-  pub bytes : take to pool ≡ flat (take i (kept ks (datas n E Q)))
+  pub bytes : take to pool ≡ concat (take i (kept ks (datas n E Q)))
   pub rest : drop from pool ≡ drop from Q
   pub places : take i end ≡ take i (ends 0 (kept ks (datas n E Q)))
   pub later : drop i end ≡ drop i E
@@ -97,14 +99,13 @@ module _ {n : ℕ} {ks E Q : List ℕ} (can : CanCompact n ks E Q) where
   long_kept = length-kept ks (datas n E Q) ∙ long-data
 
   pub pack-first : Packing n ks E Q 0 0 0 E Q
-  unfolding flat
   pack-first = record { few = omega arith; from_is = refl; to_is = refl; low = omega arith; bytes = refl; rest = refl; places = refl; later = refl; end-long = refl; pool-long = refl }
 
   -- slot i, in what is left
   record Here (i from e : ℕ) (pool : List ℕ) : Type 0 where
     size : e ≡ from + length (get_or (datas n E Q) i [])
     fits : e ≤ length Q
-    end_is : e ≡ length (flat (take (suc i) (datas n E Q)))
+    end_is : e ≡ length (concat (take (suc i) (datas n E Q)))
     bytes-are : take (e - from) (drop from pool) ≡ get_or (datas n E Q) i []
 
   module _ {i from to : ℕ} {end pool : List ℕ} (v : Packing n ks E Q i from to end pool) where
@@ -115,11 +116,11 @@ module _ {n : ℕ} {ks E Q : List ℕ} (can : CanCompact n ks E Q) where
         let old : get_or end i 0 ≡ get_or E i 0 =
         ap (λ (k : ℕ). get_or end k 0) (omega arith) ∙ sym (get_or-drop i end 0 0) ∙ ap (λ (l : List ℕ). get_or l 0 0) v.later ∙ get_or-drop i E 0 0 ∙ ap (λ (k : ℕ). get_or E k 0) (omega arith) in
         let he : E ≡ pad (length E) (ends 0 ds) = can.packed.places in
-        let hq : Q ≡ pad (length Q) (flat ds) = can.packed.bytes in
-        let at-E : get_or E i 0 ≡ length (flat (take (suc i) ds)) = ap (λ (l : List ℕ). get_or l i 0) he ∙ end-at (length E) ds i ids in
-        let end_is : e ≡ length (flat (take (suc i) ds)) = old ∙ at-E in
-        let size : e ≡ from + length (get_or ds i []) = end_is ∙ ap length (flat-suc ds i ids) ∙ length-append (flat (take i ds)) (get_or ds i []) ∙ omega (arith, v.from_is) in
-        let most : length (flat (take (suc i) ds)) ≤ length (flat ds) = omega (arith, flat-mono ds (suc i) n h, ap (λ (l : List (List ℕ)). length (flat l)) (take_all n ds (omega (arith, long-data)))) in
+        let hq : Q ≡ pad (length Q) (concat ds) = can.packed.bytes in
+        let at-E : get_or E i 0 ≡ length (concat (take (suc i) ds)) = ap (λ (l : List ℕ). get_or l i 0) he ∙ end-at (length E) ds i ids in
+        let end_is : e ≡ length (concat (take (suc i) ds)) = old ∙ at-E in
+        let size : e ≡ from + length (get_or ds i []) = end_is ∙ ap length (concat-suc ds i ids) ∙ length-append (concat (take i ds)) (get_or ds i []) ∙ omega (arith, v.from_is) in
+        let most : length (concat (take (suc i) ds)) ≤ length (concat ds) = omega (arith, flat-mono ds (suc i) n h, ap (λ (l : List (List ℕ)). length (concat l)) (take_all n ds (omega (arith, long-data)))) in
         let st : start_of E i ≡ from = ap (λ (l : List ℕ). start_of l i) he ∙ start-of (length E) ds i (omega arith) ∙ sym v.from_is in
         record {
           size = size;
@@ -170,21 +171,21 @@ module _ {n : ℕ} {ks E Q : List ℕ} (can : CanCompact n ks E Q) where
         let part : take m (drop from pool) ≡ get_or K i [] = kept-part e H in
         let left : length (drop from pool) ≡ length pool - from = length-drop from pool in
         let m-is : m ≡ length (get_or K i []) = sym (length-take-le m (drop from pool) (omega arith)) ∙ ap length part in
-        let K-next : flat (take (suc i) K) ≡ flat (take i K) ++ get_or K i [] = flat-suc K i i_k in
-        let to-next : r ≡ length (flat (take (suc i) K)) = s.next ∙ omega (arith, m-is, v.to_is, ap length K-next ∙ length-append (flat (take i K)) (get_or K i [])) in
+        let K-next : concat (take (suc i) K) ≡ concat (take i K) ++ get_or K i [] = concat-suc K i i_k in
+        let to-next : r ≡ length (concat (take (suc i) K)) = s.next ∙ omega (arith, m-is, v.to_is, ap length K-next ∙ length-append (concat (take i K)) (get_or K i [])) in
         let E-at : get_or (ends 0 K) i 0 ≡ r = get_or-ends 0 K i i_k ∙ omega (arith, to-next) in
         let same : length pool' ≡ length pool = ap length s.bytes ∙ length-put pool to (drop from pool) m (omega arith) (omega arith) in
         record {
           few = omega arith;
-          from_is = H.end_is ∙ ap (λ (k : ℕ). length (flat (take k ds))) one;
-          to_is = to-next ∙ ap (λ (k : ℕ). length (flat (take k K))) one;
+          from_is = H.end_is ∙ ap (λ (k : ℕ). length (concat (take k ds))) one;
+          to_is = to-next ∙ ap (λ (k : ℕ). length (concat (take k K))) one;
           low = omega (arith, s.next);
           bytes =
               ap (λ (k : ℕ). take k pool') s.next ∙ ap (take (to + m)) s.bytes
               ∙ take_put pool to (drop from pool) m (omega arith) (omega arith)
               ∙ (λ j. v.bytes j ++ part j)
               ∙ sym K-next
-              ∙ ap (λ (k : ℕ). flat (take k K)) one;
+              ∙ ap (λ (k : ℕ). concat (take k K)) one;
           rest = further pool' m e s.bytes (omega arith) (omega arith) (omega arith) (omega arith);
           places =
               ap (λ (k : ℕ). take k (set end i r)) (sym one)
@@ -203,7 +204,7 @@ module _ {n : ℕ} {ks E Q : List ℕ} (can : CanCompact n ks E Q) where
 
     pub pack-clear : from ≤ length pool
     pack-clear =
-        omega (arith, v.from_is, v.pool-long, flat-mono ds i n v.few, ap (λ (l : List (List ℕ)). length (flat l)) (take_all n ds (omega (arith, long-data))), can.packed.room)
+        omega (arith, v.from_is, v.pool-long, flat-mono ds i n v.few, ap (λ (l : List (List ℕ)). length (concat l)) (take_all n ds (omega (arith, long-data))), can.packed.room)
 
     pub pack-last : {pool' : List ℕ} → n ≤ i → pool' ≡ put pool to (replicate (from - to) 0) (from - to) → Compacted n ks E Q end pool'
     unfolding pad put
@@ -213,26 +214,26 @@ module _ {n : ℕ} {ks E Q : List ℕ} (can : CanCompact n ks E Q) where
         let all : i ≡ n = omega (arith, v.few) in
         let all_k : take i K ≡ K = take_all i K (omega (arith, long_kept)) in
         let all_d : take i ds ≡ ds = take_all i ds (omega (arith, long-data)) in
-        let lk : length (flat K) ≡ to = sym (v.to_is ∙ ap (λ (l : List (List ℕ)). length (flat l)) all_k) in
-        let ld : length (flat ds) ≡ from = sym (v.from_is ∙ ap (λ (l : List (List ℕ)). length (flat l)) all_d) in
+        let lk : length (concat K) ≡ to = sym (v.to_is ∙ ap (λ (l : List (List ℕ)). length (concat l)) all_k) in
+        let ld : length (concat ds) ≡ from = sym (v.from_is ∙ ap (λ (l : List (List ℕ)). length (concat l)) all_d) in
         let le : length (ends 0 K) ≡ i = length-ends 0 K ∙ omega (arith, long_kept) in
         let lds : length (ends 0 ds) ≡ i = length-ends 0 ds ∙ omega (arith, long-data) in
         let low : to ≤ from = v.low in
         let tail : drop i E ≡ replicate (S - length (ends 0 K)) 0 =
         ap (drop i) can.packed.places ∙ drop_at (ends 0 ds) (replicate (S - length (ends 0 ds)) 0) i lds ∙ ap (λ (k : ℕ). replicate (S - k) 0) (lds ∙ sym le) in
         let zeros : drop from Q ≡ replicate (P - from) 0 =
-        ap (drop from) can.packed.bytes ∙ drop_at (flat ds) (replicate (P - length (flat ds)) 0) from ld ∙ ap (λ (k : ℕ). replicate (P - k) 0) ld in
+        ap (drop from) can.packed.bytes ∙ drop_at (concat ds) (replicate (P - length (concat ds)) 0) from ld ∙ ap (λ (k : ℕ). replicate (P - k) 0) ld in
         let sum : to + (from - to) ≡ from = omega arith in
-        let amount : from - to + (P - from) ≡ P - length (flat K) = omega (arith, pack-clear, v.pool-long) in
+        let amount : from - to + (P - from) ≡ P - length (concat K) = omega (arith, pack-clear, v.pool-long) in
         record {
           places = sym (take-append-drop i end) ∙ (λ j. v.places j ++ v.later j) ∙ (λ j. take_all i (ends 0 K) (omega arith) j ++ tail j);
           bytes =
               p
-              ∙ ap (λ (l : List ℕ). l ++ take (from - to) (replicate (from - to) 0) ++ drop (to + (from - to)) pool) (v.bytes ∙ ap flat all_k)
-              ∙ ap (λ (l : List ℕ). flat K ++ l ++ drop (to + (from - to)) pool) (take_all (from - to) (replicate (from - to) 0) (omega (arith, length-replicate {A = ℕ} (from - to) 0)))
-              ∙ ap (λ (k : ℕ). flat K ++ replicate (from - to) 0 ++ drop k pool) sum
-              ∙ ap (λ (l : List ℕ). flat K ++ replicate (from - to) 0 ++ l) (v.rest ∙ zeros)
-              ∙ append_assoc (flat K) (replicate (from - to) 0) (replicate (P - from) 0)
-              ∙ ap (λ (l : List ℕ). flat K ++ l) (replicate-append-replicate (from - to) (P - from) 0)
-              ∙ ap (λ (k : ℕ). flat K ++ replicate k 0) amount;
+              ∙ ap (λ (l : List ℕ). l ++ take (from - to) (replicate (from - to) 0) ++ drop (to + (from - to)) pool) (v.bytes ∙ ap concat all_k)
+              ∙ ap (λ (l : List ℕ). concat K ++ l ++ drop (to + (from - to)) pool) (take_all (from - to) (replicate (from - to) 0) (omega (arith, length-replicate {A = ℕ} (from - to) 0)))
+              ∙ ap (λ (k : ℕ). concat K ++ replicate (from - to) 0 ++ drop k pool) sum
+              ∙ ap (λ (l : List ℕ). concat K ++ replicate (from - to) 0 ++ l) (v.rest ∙ zeros)
+              ∙ append_assoc (concat K) (replicate (from - to) 0) (replicate (P - from) 0)
+              ∙ ap (λ (l : List ℕ). concat K ++ l) (replicate-append-replicate (from - to) (P - from) 0)
+              ∙ ap (λ (k : ℕ). concat K ++ replicate k 0) amount;
         }

@@ -10,7 +10,9 @@ use lib.Seq.{take-suc, take_all}
 use lib.Dec.{ltb}
 use borrow.Author.Tests.{lt-ltb, le-ltb}
 use Rattle.std.specs.Prelude.{if◌then◌else◌}
-use Rattle.heap.specs.Packing.{pad, flat, ends, start_of}
+use Rattle.heap.specs.Packing.{pad, ends}
+use Rattle.std.specs.List.{concat}
+use Rattle.word.specs.Run.{start_of}
 use Rattle.heap.specs.State.{Slot, no_slot, data_of, live}
 use Rattle.heap.specs.Lent.{column}
 use Rattle.heap.proofs.Packing.{length-pad, length-ends, start-of, end_of, start-zero, start-next}
@@ -82,18 +84,18 @@ unfolding live_size
 size-snoc [] s = omega arith
 size-snoc (x ∷ xs) s = omega (arith, size-snoc xs s)
 
-module _ (S P : ℕ) (slots : List Slot) (ks es : List ℕ) (fit : length slots ≤ S) (room : length (flat (data_of slots)) ≤ P)
+module _ (S P : ℕ) (slots : List Slot) (ks es : List ℕ) (fit : length slots ≤ S) (room : length (concat (data_of slots)) ≤ P)
     (hk : ks ≡ column S (λ s. s.kind) slots) (he : es ≡ pad S (ends 0 (data_of slots))) where
   n-data : length (data_of slots) ≡ length slots
   n-data = length-map slots (λ (s : Slot). s.bytes)
 
-  start-at : (i : ℕ) → i ≤ length slots → start_of es i ≡ length (flat (take i (data_of slots)))
+  start-at : (i : ℕ) → i ≤ length slots → start_of es i ≡ length (concat (take i (data_of slots)))
   start-at i h = ap (λ (l : List ℕ). start_of l i) he ∙ start-of S (data_of slots) i (omega (arith, n-data))
 
-  end-at : (i : ℕ) → i < length slots → get_or es i 0 ≡ length (flat (take i (data_of slots))) + length (get_or slots i no_slot).bytes
+  end-at : (i : ℕ) → i < length slots → get_or es i 0 ≡ length (concat (take i (data_of slots))) + length (get_or slots i no_slot).bytes
   end-at i h =
       ap (λ (l : List ℕ). get_or l i 0) he ∙ end_of S (data_of slots) i (omega (arith, n-data))
-      ∙ ap (λ (l : List ℕ). length (flat (take i (data_of slots))) + length l) (get_or-map (λ (s : Slot). s.bytes) slots i no_slot)
+      ∙ ap (λ (l : List ℕ). length (concat (take i (data_of slots))) + length l) (get_or-map (λ (s : Slot). s.bytes) slots i no_slot)
 
   kind_at : (i : ℕ) → i < length slots → get_or ks i 0 ≡ (get_or slots i no_slot).kind
   kind_at i h = ap (λ (l : List ℕ). get_or l i 0) hk ∙ column-at S (λ s. s.kind) slots i h
@@ -105,7 +107,7 @@ module _ (S P : ℕ) (slots : List Slot) (ks es : List ℕ) (fit : length slots 
         kinds = omega (arith, ap length hk ∙ column-size S (λ s. s.kind) slots fit);
         ends = omega (arith, ap length he ∙ length-pad S (ends 0 (data_of slots)) (omega (arith, length-ends 0 (data_of slots), n-data)));
         rising = λ i h. omega (arith, start-at i (omega arith), end-at i h);
-        small = λ i h. omega (arith, start-at i h, flat-mono (data_of slots) i (length slots) h, ap (λ (l : List (List ℕ)). length (flat l)) (take_all (length slots) (data_of slots) (omega (arith, n-data))));
+        small = λ i h. omega (arith, start-at i h, flat-mono (data_of slots) i (length slots) h, ap (λ (l : List (List ℕ)). length (concat l)) (take_all (length slots) (data_of slots) (omega (arith, n-data))));
       }
 
   sizes-upto : (i : ℕ) → i ≤ length slots → sizes_in i ks es ≡ live_size (take i slots)

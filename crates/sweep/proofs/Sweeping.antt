@@ -3,16 +3,10 @@ use mathlib.Core.Path.{◌≡◌, refl, sym, ap, ◌∙◌, subst}
 use mathlib.Core.Bool.{Bool, true, false}
 use mathlib.Core.List.{List, []}
 use Prim.Native.Nat.{ℕ, ◌+◌, ◌-◌, ◌*◌, ◌/◌, ◌≤◌, ◌<◌}
-use native.Mathlib.Omega.{arith}
-use lib.ListN.{length, get_or, take, drop, length-map, get_or-map}
-use lib.Seq.{ext_get_or}
-use lib.Dec.{ltb}
-use borrow.Author.Tests.{ltb-false}
-use borrow.Rule.Slice.PartMut.{put_mid, same_len_mid}
 use Rattle.std.specs.Prelude.{if◌then◌else◌}
 use Rattle.word.specs.Run.{run}
 use Rattle.word.proofs.RunLaws.{run-part, lent-run, length_run}
-use Rattle.heap.specs.Packing.{pad, flat, ends}
+use Rattle.heap.specs.Packing.{pad, ends}
 use Rattle.heap.specs.Inner.Columns.{datas, Packed}
 use Rattle.heap.specs.State.{Slot, State, no_slot, slot_at, data_of, live}
 use Rattle.heap.specs.Calls.{released, recycle}
@@ -36,6 +30,13 @@ use Rattle.sweep.proofs.Compacting.{length-kept, kept_at}
 use Rattle.sweep.proofs.Sizing.{can-size, sizes-are}
 use Rattle.sweep.proofs.Staying.{stays_at}
 use Rattle.sweep.proofs.Releasing.{columns-stored, with-pool, kind_at}
+use Rattle.std.specs.List.{concat}
+use native.Mathlib.Omega.{arith}
+use lib.ListN.{length, get_or, take, drop, length-map, get_or-map}
+use lib.Seq.{ext_get_or}
+use lib.Dec.{ltb}
+use borrow.Author.Tests.{ltb-false}
+use borrow.Rule.Slice.PartMut.{put_mid, same_len_mid}
 
 -- the data of a slot goes with it
 slot-bytes : (marks : List ℕ) (i : ℕ) (s : Slot) → (s.kind ≡ 0 → s.bytes ≡ []) → (if live (swept_slot marks i s) then s.bytes else []) ≡ (swept_slot marks i s).bytes
@@ -123,8 +124,8 @@ module _ (l : Lent) (marks : List ℕ) (can : CanSweep l marks) where
     ends_now : es ≡ pad (slot_count l) (ends 0 (data_of (all_dropped (view l) marks).slots))
     ends_now = w.places ∙ (λ j. pad (end-long S P (view l) l formed.lies formed.sound.slots-fit formed.sound.data-fit j) (ends 0 (data-now j)))
 
-    pool-now : ps ≡ pad (pool_size l) (flat (data_of (all_dropped (view l) marks).slots))
-    pool-now = w.bytes ∙ ap (λ (d : List (List ℕ)). pad P (flat d)) data-now
+    pool-now : ps ≡ pad (pool_size l) (concat (data_of (all_dropped (view l) marks).slots))
+    pool-now = w.bytes ∙ ap (λ (d : List (List ℕ)). pad P (concat d)) data-now
 
     can-total : CanSize l.header.slots (columns_of l (all_dropped (view l) marks)).kind es
     unfolding columns_of
@@ -183,7 +184,7 @@ module _ (l : Lent) (marks : List ℕ) (can : CanSweep l marks) where
         let f = formed in
         record {
           places = ap (λ (x : Lent). x.end) f.lies ∙ (λ j. pad (sym (end-long S P (view l) l f.lies f.sound.slots-fit f.sound.data-fit) j) (ends 0 (d j)));
-          bytes = ap (λ (x : Lent). x.pool) f.lies ∙ (λ j. pad P (flat (d j)));
+          bytes = ap (λ (x : Lent). x.pool) f.lies ∙ (λ j. pad P (concat (d j)));
         }
 
     pub kept-count : CanSize l.header.slots l.kind l.end

@@ -1,12 +1,5 @@
 -- The first lines and the last ones of a table's text. Assumes nothing.
 use Prim.Native.Nat.{ℕ, ◌+◌, ◌-◌, ◌≤◌, ◌<◌}
-use mathlib.Core.List.{List, ◌∷◌, ◌++◌}
-use mathlib.Core.Option as maybe
-use mathlib.Core.Option.{none, some}
-use mathlib.Core.Logic.{◌⊎◌, inl, inr}
-use mathlib.Core.Path.{◌≡◌, sym, ap, ◌∙◌, subst}
-use lib.ListN.{length, drop, length-append, length-drop, drop_of_length-le}
-use native.Mathlib.Omega.{arith}
 use Rattle.text.specs.Text.{read_literal, hex, newline, Bytes}
 use Rattle.text.specs.Reading.{give, read_field, read_hex}
 use Rattle.text.specs.Format.{pair, after_literal, bytes_line}
@@ -21,6 +14,14 @@ use Rattle.tables.proofs.Laws.{num, last}
 use Rattle.table_check.specs.Inner.Edges.{CountsFound, CountsGot, BytesFound, BytesGot}
 use Rattle.table_check.specs.declared.CountsRead.{CountsRead}
 use Rattle.table_check.specs.declared.BytesRead.{BytesRead}
+use Rattle.text.proofs.Copying.{hex-is}
+use mathlib.Core.List.{List, ◌∷◌, ◌++◌}
+use mathlib.Core.Option as maybe
+use mathlib.Core.Option.{none, some}
+use mathlib.Core.Logic.{◌⊎◌, inl, inr}
+use mathlib.Core.Path.{◌≡◌, sym, ap, ◌∙◌, subst}
+use lib.ListN.{length, drop, length-append, length-drop, drop_of_length-le}
+use native.Mathlib.Omega.{arith}
 
 field_in : (s : List ℕ) (most end at : ℕ) → Right (up_to most end) (λ n. n ≤ most) → {r : Option (ℕ × ℕ)} (n k : ℕ) → r ≡ value_answer (length s) (read_field most end (drop at s)) → r ≡ Some (n, k) →
     (read_field most end (drop at s) ≡ give n (drop k s)) × (k ≤ length s) × (n ≤ most)
@@ -75,10 +76,6 @@ module _ (s : List ℕ) where
           }
 
 -- THE CONSTANTS' BYTES
-
-hex-is : (s : List ℕ) (b : ℕ) (bs rest : List ℕ) → read_hex (drop b s) ≡ give bs rest → hex_at s b ≡ bs
-unfolding hex_at
-hex-is s b bs rest e = rw (e, hex_at)
 
 module _ (s : List ℕ) (at : ℕ) where
   no_bytes : (bytes_format.read (drop at s) ≡ none) ⊎ ((l : List ℕ) × (e : ℕ) × (e < length s) × (bytes_format.read (drop at s) ≡ give l (drop e s))) → BytesGot s at None

@@ -3,7 +3,7 @@
 
 ghost use Rattle.std.specs.Prelude.{◌≡◌};
 ghost use Rattle.refusal.specs.Told.{answered, here, nothing};
-ghost use Rattle.table_writer.specs.Writing.{table_in, writing, leaving};
+ghost use Rattle.table_writer.specs.Writing.{writing, leaving, lent_table};
 ghost use Rattle.table_reader.specs.Reading.{lists, outcome, reading};
 
 use refusal::Answer;
@@ -21,9 +21,9 @@ pub fn yexwalu_write_table(
     out: &mut [u8],
 ) -> Answer
     ensures value { result
-        ≡ answered here nothing (writing (table_in types.now fields.now consts.now bytes.now names.now) out.old) }
+        ≡ answered here nothing (writing (lent_table types.now fields.now consts.now bytes.now names.now) out.old) }
     ensures out_after { out.new
-        ≡ leaving (table_in types.now fields.now consts.now bytes.now names.now) out.old }
+        ≡ leaving (lent_table types.now fields.now consts.now bytes.now names.now) out.old }
 {
     let table = Table {
         types,

@@ -1,10 +1,5 @@
 -- The names of lines, put one after another. Assumes nothing.
 use Prim.Native.Nat.{ℕ, ◌+◌, ◌-◌, ◌≤◌, ◌<◌}
-use mathlib.Core.List.{List, [], ◌∷◌, ◌++◌, flat_map}
-use mathlib.Core.Option.{none}
-use mathlib.Core.Path.{◌≡◌, refl, sym, ap, ◌∙◌}
-use lib.ListN.{length, take, drop, length-append}
-use native.Mathlib.Omega.{arith}
 use Rattle.text.specs.Reading.{give, read_field}
 use Rattle.text.specs.Format.{read_all}
 use Rattle.text.specs.Put.{put_text}
@@ -16,9 +11,14 @@ use Rattle.tables.specs.Reading.{read_name, row_format}
 use Rattle.tables.specs.Lists.{names_in}
 use Rattle.tables.proofs.Endings.{Gathering, gather-begin, gather-next, gather-lost, gather-done, gather-prefix}
 use Rattle.tables.proofs.Naming.{NameFound, name-part}
-use Rattle.tables.proofs.Rowing.{flat_append}
 use Rattle.table_check.proofs.Lining.{line_of, row_read, row-numbers-lost, row-name-lost, names-snoc}
 use Rattle.table_reader.specs.Inner.Ready.{rows_at, NamesReady}
+use Rattle.pages.proofs.Writing.{flat_append}
+use mathlib.Core.List.{List, [], ◌∷◌, ◌++◌, flat_map}
+use mathlib.Core.Option.{none}
+use mathlib.Core.Path.{◌≡◌, refl, sym, ap, ◌∙◌}
+use lib.ListN.{length, take, drop, length-append}
+use native.Mathlib.Omega.{arith}
 
 pub rows_are : (k most : ℕ) (s : List ℕ) (at count : ℕ) (rows : List Row) (rest : List ℕ) → read_all (row_format k most).read count (drop at s) ≡ give rows rest → rows_at k most s at count ≡ rows
 unfolding rows_at

@@ -1,3 +1,3 @@
-pub mod RowsPut
-pub mod Wholes
+pub mod LinesPut
+pub mod WholeText
 pub mod TablesInLists

@@ -1,13 +1,5 @@
 -- Tables and the lent lists: the lists of a table hold it, and what lies in lists is within its bounds. Assumes nothing.
 use Prim.Native.Nat.{ℕ, zero, suc, ◌*◌, ◌/◌, ◌≤◌}
-use mathlib.Core.List.{List, [], ◌∷◌, ◌++◌, append-nil, flat_map, map}
-use mathlib.Core.Bool.{true}
-use mathlib.Core.Option.{Option, some}
-use mathlib.Core.Path.{◌≡◌, refl, sym, ap, ◌∙◌, subst}
-use lib.ListN.{length, take, drop, length-drop, take-append-drop}
-use lib.Seq.{take_at, drop_at, length-take-le}
-use native.Mathlib.Omega.{arith}
-use native.Mathlib.Nat.{mul-suc}
 use Rattle.text.specs.Text.{Bytes, All}
 use Rattle.text.specs.Reading.{give, ◌>>=◌}
 use Rattle.text.specs.Format.{pair, times}
@@ -20,7 +12,15 @@ use Rattle.tables.specs.Reading.{name_format, names_format, named_in}
 use Rattle.tables.specs.Lists.{numbers_in, names_in, all_names, Names, rows_of, with_names}
 use Rattle.tables.proofs.NamedLists.{names-right}
 use Rattle.tables.proofs.Rowing.{numbers-size}
-use Rattle.table_writer.proofs.Wholes.{rows-count, types-whole, fields-whole, constants-whole, counts-small}
+use Rattle.table_writer.proofs.WholeText.{rows-count, types-whole, fields-whole, constants-whole, counts-small}
+use mathlib.Core.List.{List, [], ◌∷◌, ◌++◌, append-nil, flat_map, map}
+use mathlib.Core.Bool.{true}
+use mathlib.Core.Option.{Option, some}
+use mathlib.Core.Path.{◌≡◌, refl, sym, ap, ◌∙◌, subst}
+use lib.ListN.{length, take, drop, length-drop, take-append-drop}
+use lib.Seq.{take_at, drop_at, length-take-le}
+use native.Mathlib.Omega.{arith}
+use native.Mathlib.Nat.{mul-suc}
 
 names_of : List Row → List (List ℕ)
 names_of rows = map (λ r. r.1) rows

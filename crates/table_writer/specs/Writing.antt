@@ -9,8 +9,8 @@ use Rattle.tables.specs.Table.{Named, table_text}
 use Rattle.tables.specs.Reading.{named_in}
 
 -- the table that lies in lent lists, or what it is refused for
-unfoldable pub table_in : (types fields constants bytes names : List ℕ) → Result Named
-table_in w f c b names =
+unfoldable pub lent_table : (types fields constants bytes names : List ℕ) → Result Named
+lent_table w f c b names =
     elim (named_in w f c b names) [ none ↦ refused 17 | some d ↦ (if table_good w f c b then ok d else refused 10) ]
 
 -- how many bytes its text takes

@@ -2,14 +2,14 @@
 #![tactic(auto)]
 
 ghost use Rattle.std.specs.Prelude.{◌≡◌, ◌+◌, ◌-◌, ◌*◌, ◌/◌, ◌≤◌, ◌<◌, length, leb};
-ghost use mathlib.Core.List.{[], ◌∷◌, ◌++◌, flat_map};
 ghost use Rattle.text.specs.Inner.Wrote.{Wrote};
 ghost use Rattle.text.specs.Text.{decimal, hex};
 ghost use Rattle.tables.specs.Table.{field, row_line, counts_line, count_names, bytes_name, table_text};
 ghost use Rattle.tables.specs.Lists.{rows_of};
 ghost use Rattle.tables.specs.Inner.Answer.{names_at, RowsReady};
 ghost use Rattle.table_writer.specs.Inner.Parts.{NamesGot, named, rest_length, Ready, TableWritten};
-ghost use Rattle.table_writer.specs.Writing.{table_in};
+ghost use Rattle.table_writer.specs.Writing.{lent_table};
+ghost use mathlib.Core.List.{[], ◌∷◌, ◌++◌, flat_map};
 
 use pages::Listed;
 use refusal::{Refusal, Reply};
@@ -171,7 +171,7 @@ fn put_table(table: &Table, names: &[u8], begin: NamesRead, out: &mut Out)
 
 // Writes a type table and its names as text to `out`, and answers the text's length, or why it is refused.
 pub fn write(table: &Table, names: &[u8], out: &mut [u8]) -> Reply
-    ensures { TableWritten (table_in table.now.types.now table.now.fields.now table.now.consts.now table.now.bytes.now names.now)
+    ensures { TableWritten (lent_table table.now.types.now table.now.fields.now table.now.consts.now table.now.bytes.now names.now)
         out.old out.new result }
 {
     let types = table.types.len() / 4;

@@ -1,5 +1,17 @@
 -- The laws of the table's text.
 use Prim.Native.Nat.{ℕ, ◌≤◌}
+use Rattle.std.specs.Prelude.{if◌then◌else◌}
+use Rattle.text.specs.Text.{decimal, hex, line, newline, comma, Bytes, read_literal}
+use Rattle.text.specs.Reading.{give, ◌>>=◌, digit_of, read_field, read_decimal}
+use Rattle.text.specs.Inner.Answer.{Stops}
+use Rattle.text.specs.Format.{bytes_line, after_literal, pair, times}
+use Rattle.text.specs.Inner.Right.{Right}
+use Rattle.text.proofs.Laws.{none-not-some, bind-some, some_inj, passed, decimal-forth, decimal-back, literal-forth, literal-back, bytes-line-right, after-literal-right, pair-right, times-right, number-join, Listed}
+use Rattle.pages.specs.Reading.{whole}
+use Rattle.pages.proofs.Laws.{whole-some, flat_map-same}
+use Rattle.tables.specs.Table.{Row, Named, field, name_text, row_line, count_names, type_names, field_names, constant_names, bytes_name, counts_line, table_text, plain, Plain, RowWithin, most64, most32, Within}
+use Rattle.tables.specs.Reading.{up_to, read_name, name_format, row_format, Counts, counts_format, rows_format, bytes_format, Body, table_format, named_of, read_table}
+use Rattle.tables.specs.Inner.Saved.{saved}
 use mathlib.Core.List.{List, [], ◌∷◌, ◌++◌, append_assoc, append-nil, flat_map}
 use mathlib.Core.Bool.{Bool, true, false}
 use mathlib.Core.Option.{none, some}
@@ -9,18 +21,6 @@ use native.Mathlib.Omega.{arith}
 use lib.Dec.{leb, eqb}
 use lib.ListN.{length}
 use borrow.Author.Tests.{ne_eqb, eqb-true, leb-true}
-use Rattle.std.specs.Prelude.{if◌then◌else◌}
-use Rattle.text.specs.Text.{decimal, hex, line, newline, comma, Bytes, read_literal, All}
-use Rattle.text.specs.Reading.{give, ◌>>=◌, digit_of, read_field, read_decimal}
-use Rattle.text.specs.Inner.Answer.{Stops}
-use Rattle.text.specs.Format.{bytes_line, after_literal, pair, times}
-use Rattle.text.specs.Inner.Right.{Right}
-use Rattle.text.proofs.Laws.{none-not-some, bind-some, some_inj, passed, decimal-forth, decimal-back, literal-forth, literal-back, bytes-line-right, after-literal-right, pair-right, times-right, number-join}
-use Rattle.pages.specs.Reading.{whole}
-use Rattle.pages.proofs.Laws.{whole-some, flat_map-same}
-use Rattle.tables.specs.Table.{Row, Named, field, name_text, row_line, count_names, type_names, field_names, constant_names, bytes_name, counts_line, table_text, plain, Plain, RowWithin, most64, most32, Within}
-use Rattle.tables.specs.Reading.{up_to, read_name, name_format, row_format, Counts, counts_format, rows_format, bytes_format, Body, table_format, named_of, read_table}
-use Rattle.tables.specs.Inner.Saved.{saved}
 
 -- NUMBERS UP TO A BOUND
 
@@ -124,9 +124,6 @@ Counts-good n = (n.0 ≤ 4096) × ((n.1.0 ≤ 16384) × (n.1.1 ≤ 4096))
 pub counts-right : Right counts_format Counts-good
 unfolding counts_format
 counts-right = after-literal-right count_names (pair-right (num 4096) λ _. pair-right (num 16384) λ _. last 4096)
-
-abbrev pub Listed : {A : Type 0} → (A → Type 0) → ℕ → List A → Type 0
-Listed fine n l = All fine l × (length l ≡ n)
 
 pub rows_right : (names : List ℕ) (n k most : ℕ) → Right (rows_format names n k most) (Listed (RowWithin k most) n)
 unfolding rows_format

@@ -1,23 +1,18 @@
 -- Lines put one after another: numbers with their commas, then a name. Assumes nothing.
 use Prim.Native.Nat.{ℕ, suc, ◌+◌, ◌*◌, ◌≤◌, ◌<◌}
-use mathlib.Core.List.{List, [], ◌∷◌, ◌++◌, append_assoc, append-nil, flat_map}
-use mathlib.Core.Path.{◌≡◌, refl, sym, ap, ◌∙◌}
-use lib.ListN.{length, take, drop, get_or, length-append}
-use lib.Seq.{drop-drop, take_all, take-length}
-use native.Mathlib.Omega.{arith}
-use native.Mathlib.Nat.{mul-suc}
 use Rattle.text.specs.Text.{decimal, comma, All}
 use Rattle.text.specs.Inner.Puts.{Puts}
 use Rattle.text.proofs.Laws.{decimal-length}
 use Rattle.text.proofs.Putting.{puts-at, puts_none}
-use Rattle.pages.proofs.Writing.{flat-more-length, flat-room, puts-more}
+use Rattle.pages.proofs.Writing.{flat-more-length, flat_append, flat-room, puts-more}
 use Rattle.tables.specs.Table.{Row, RowWithin, field, name_text, row_line}
 use Rattle.tables.specs.Lists.{rows_of, numbers_in}
-
-pub flat_append : {A : Type 0} (f : A → List ℕ) (xs ys : List A) → flat_map f (xs ++ ys) ≡ flat_map f xs ++ flat_map f ys
-unfolding flat_map
-flat_append f [] ys = refl
-flat_append f (x ∷ xs) ys = rw (flat_append f xs ys) (sym (append_assoc (f x) (flat_map f xs) (flat_map f ys)))
+use mathlib.Core.List.{List, [], ◌∷◌, ◌++◌, append-nil, flat_map}
+use mathlib.Core.Path.{◌≡◌, refl, ap, ◌∙◌}
+use lib.ListN.{length, take, drop, get_or, length-append}
+use lib.Seq.{drop-drop, take_all, take-length}
+use native.Mathlib.Omega.{arith}
+use native.Mathlib.Nat.{mul-suc}
 
 pub flat-snoc : {A : Type 0} (f : A → List ℕ) (xs : List A) (x : A) → flat_map f (xs ++ (x ∷ [])) ≡ flat_map f xs ++ f x
 unfolding flat_map

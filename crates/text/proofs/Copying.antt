@@ -1,15 +1,15 @@
 -- Bytes out of hexadecimal.
 use Prim.Native.Nat.{ℕ, zero, suc, ◌+◌, ◌-◌, ◌*◌, ◌/◌, ◌%◌, ◌<◌}
+use Rattle.text.specs.Text.{Bytes, hex, hex_digit, newline}
+use Rattle.text.specs.Reading.{hex_digit_of, read_hex, give}
+use Rattle.text.specs.Inner.Answer.{hex_at, HexParsed, HexDigit}
+use Rattle.text.proofs.Laws.{none-not-some, some_inj, hex-digit-forth, hex-back, hex-length}
 use mathlib.Core.List.{List, [], ◌∷◌, ◌++◌}
 use mathlib.Core.Path.{◌≡◌, refl, sym, ap, ◌∙◌}
 use lib.ListN.{length, drop, get_or, length-drop, length-append}
 use lib.Seq.{get_or-drop}
 use native.Mathlib.Omega.{arith}
-use Rattle.text.specs.Text.{Bytes, hex, hex_digit, newline}
-use Rattle.text.specs.Reading.{hex_digit_of, read_hex, give}
 use mathlib.Core.Option.{Option, none, some}
-use Rattle.text.specs.Inner.Answer.{hex_at, HexParsed, HexDigit}
-use Rattle.text.proofs.Laws.{none-not-some, some_inj, hex-digit-forth, hex-back, hex-length}
 
 byte_at : (bs : List ℕ) (i : ℕ) → Bytes bs → i < length bs → get_or bs i 0 < 256
 byte_at [] i b h = absurd (omega arith)
@@ -27,9 +27,9 @@ digits-at (x ∷ bs) t (suc i) h =
       ap (λ (n : ℕ). get_or (hex (x ∷ bs) ++ t) n 0) (let v : 2 * suc i + 1 ≡ suc (suc (2 * i + 1)) = omega arith in v) ∙ r.1,
     )
 
-bytes-are : (s : List ℕ) (at : ℕ) (b t : List ℕ) → read_hex (drop at s) ≡ give b t → b ≡ hex_at s at
+pub hex-is : (s : List ℕ) (at : ℕ) (b t : List ℕ) → read_hex (drop at s) ≡ give b t → hex_at s at ≡ b
 unfolding hex_at
-bytes-are s at b t e = rw (e, hex_at)
+hex-is s at b t e = rw (e, hex_at)
 
 -- bytes are spelled where reading them answers something
 pub parsed : (s : List ℕ) (at : ℕ) → (read_hex (drop at s) ≡ none → ⊥) → HexParsed s at
@@ -37,7 +37,7 @@ parsed s at f = go (read_hex (drop at s)) refl
   where
     go : (o : Option (List ℕ × List ℕ)) → read_hex (drop at s) ≡ o → HexParsed s at
     go none e = absurd (f e)
-    go (some r) e = record { rest = r.1; reads = e ∙ ap (λ (b : List ℕ). give b r.1) (bytes-are s at r.0 r.1 e) }
+    go (some r) e = record { rest = r.1; reads = e ∙ ap (λ (b : List ℕ). give b r.1) (sym (hex-is s at r.0 r.1 e)) }
 
 pub unlost : (s : List ℕ) (at : ℕ) → HexParsed s at → read_hex (drop at s) ≡ none → ⊥
 unlost s at p e = none-not-some (sym e ∙ p.reads)

@@ -1,5 +1,12 @@
 -- The laws of specs/Text.antt and specs/Format.antt.
 use Prim.Native.Nat.{ℕ, zero, suc, ◌+◌, ◌-◌, ◌*◌, ◌/◌, ◌%◌, ◌^◌, ◌≤◌, ◌<◌}
+use Rattle.text.specs.Text.{Bytes, newline, Reader, digits, decimal, named, hex_digit, hex, read_literal, All}
+use Rattle.text.specs.Reading.{◌>>=◌, give, digit_of, ends, scan, capped, after, read_decimal, hex_digit_of, byte_of, read_hex, read_field}
+use Rattle.text.specs.Inner.Answer.{Stops}
+use Rattle.std.specs.Prelude.{if◌then◌else◌}
+use Rattle.word.proofs.Bools.{and_both}
+use Rattle.text.specs.Format.{Format, number, bytes_line, after_literal, or_else, either, always, pair, times, mapped, read_all}
+use Rattle.text.specs.Inner.Right.{Right}
 use native.Mathlib.Nat.{pow-suc, div-lt_iff_lt-mul}
 use mathlib.Core.List.{List, [], ◌∷◌, ◌++◌, append_assoc, flat_map}
 use mathlib.Core.Bool.{Bool, true, false, ◌&&◌}
@@ -11,13 +18,6 @@ use lib.ListN.{length, length-append}
 use lib.Pow.{le_ones, lt_of_le_ones}
 use borrow.Author.Tests.{lt-ltb, le-ltb, le-leb, lt-leb, eq-eqb, ne_eqb, ltb-true, ltb-false, leb-true, eqb-true}
 use native.Mathlib.Omega.{arith}
-use Rattle.text.specs.Text.{Bytes, newline, digits, decimal, hex_digit, hex, read_literal, All}
-use Rattle.text.specs.Reading.{◌>>=◌, give, digit_of, ends, scan, capped, after, read_decimal, hex_digit_of, byte_of, read_hex, read_field}
-use Rattle.text.specs.Inner.Answer.{Stops}
-use Rattle.std.specs.Prelude.{if◌then◌else◌}
-use Rattle.word.proofs.Bools.{and_both}
-use Rattle.text.specs.Format.{Format, number, bytes_line, after_literal, or_else, either, always, pair, times, mapped, read_all}
-use Rattle.text.specs.Inner.Right.{Right}
 
 -- Options
 
@@ -27,6 +27,12 @@ none-not-some e = let z : ◌≡◌ {A = ℕ} 0 1 = cc in omega arith
 pub bind-some : {A B : Type 0} (o : Option A) (f : A → Option B) (b : B) → (o >>= f) ≡ some b → (a : A) × (o ≡ some a) × (f a ≡ some b)
 bind-some none f b e = absurd (none-not-some e)
 bind-some (some a) f b e = (a, refl, e)
+
+-- what a name, or else something other, gives
+pub by_name : {A X : Type 0} (o : Option (List ℕ)) (fields : Reader A) (other : Option (A × List ℕ)) (c : A) (rest : List ℕ) → named o fields other ≡ give c rest
+    → ((u : List ℕ) → o ≡ some u → fields u ≡ give c rest → X) → (other ≡ give c rest → X) → X
+by_name none fields other c rest e f g = g e
+by_name (some u) fields other c rest e f g = f u refl e
 
 -- a test that let a value through
 pub passed : {A : Type 0} (t : Bool) (o : Option A) (a : A) → (if t then o else none) ≡ some a → (t ≡ true) × (o ≡ some a)
@@ -496,6 +502,10 @@ module _ {A : Type 0} {f : Format A} {good : A → Type 0} (r : Right f good) wh
       let v : ◌≡◌ {A = List A × List ℕ} (x.0.0 ∷ y.0.0, y.0.1) (l, rest) = some_inj y.2 in
       all_join n t l rest x.0.0 x.0.1 y.0.0 y.0.1 (ap (λ (z : List A × List ℕ). z.0) v) (ap (λ (z : List A × List ℕ). z.1) v)
       (r.back t x.0.0 x.0.1 x.1) (all_back n x.0.1 y.0.0 y.0.1 y.1)
+
+-- so many values, each of them good
+abbrev pub Listed : {A : Type 0} → (A → Type 0) → ℕ → List A → Type 0
+Listed good n l = All good l × (length l ≡ n)
 
 pub times-right : {A : Type 0} {f : Format A} {good : A → Type 0} (n : ℕ) → Right f good → Right (times n f) (λ l. All good l × (length l ≡ n))
 unfolding times

@@ -1,26 +1,25 @@
 -- The laws of `putText`.
 use Prim.Native.Nat.{ℕ, ◌+◌, ◌-◌, ◌*◌, ◌/◌, ◌%◌, ◌≤◌, ◌<◌}
+use Rattle.word.proofs.PutLaws.{put-none, length-put, put_one, put-put, take_put}
+use Rattle.word.specs.Put.{put}
+use Rattle.text.specs.Put.{put_text}
+use Rattle.text.specs.Inner.Puts.{Puts}
+use Rattle.text.specs.Text.{decimal, hex, hex_digit}
+use Rattle.text.proofs.Laws.{decimal-one, decimal-more, decimal-length-one, decimal-length-more, hex-length}
 use mathlib.Core.List.{List, [], ◌∷◌, ◌++◌, append_assoc}
 use mathlib.Core.Path.{◌≡◌, refl, sym, ap, ◌∙◌}
 use lib.ListN.{length, get_or, take, drop, set, length-append, length-set}
 use lib.Seq.{length-take-le, take-suc, take_all, drop-drop}
 use native.Mathlib.Omega.{arith}
 use native.Mathlib.Numerals.{add-one}
-use native.Mathlib.Nat.{add-zero}
-use Rattle.word.proofs.PutLaws.{put-none, length-put, put-put, copy-turn}
+use native.Mathlib.Nat.{add-zero, zero-add}
 use borrow.Rule.Slice.PartMut.{put_mid}
-use Rattle.word.specs.Put.{put}
-use Rattle.text.specs.Put.{put_text}
-use Rattle.text.specs.Inner.Puts.{Puts}
-use Rattle.text.specs.Text.{decimal, hex, hex_digit}
-use Rattle.text.proofs.Laws.{decimal-one, decimal-more, decimal-length-one, decimal-length-more, hex-length}
-
-pub put_one : (out : List ℕ) (at b : ℕ) → at < length out → set out at b ≡ put_text out at (b ∷ [])
-put_one out at b h =
-    ap (λ (n : ℕ). set out n b) (sym (add-zero at)) ∙ copy-turn out out at (b ∷ []) 0 0 (put-none out at (b ∷ [])) (omega arith) (omega arith)
 
 pub put-length : (out : List ℕ) (at : ℕ) (t : List ℕ) → at + length t ≤ length out → length (put_text out at t) ≡ length out
 put-length out at t h = length-put out at t (length t) h (omega arith)
+
+pub taken_back : (out t : List ℕ) → take (length t) (put_text out 0 t) ≡ t
+taken_back out t = ap (λ (n : ℕ). take n (put_text out 0 t)) (sym (zero-add (length t))) ∙ take_put out 0 t (length t) (omega arith) (omega arith) ∙ take_all (length t) t (omega arith)
 
 pub put-nothing : (out : List ℕ) (at : ℕ) → put_text out at [] ≡ out
 put-nothing out at = sym (put-none out at [])

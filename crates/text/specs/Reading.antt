@@ -16,6 +16,11 @@ Reader A = List ℕ → Option (A × List ℕ)
 abbrev pub give : {A : Type 0} → A → List ℕ → Option (A × List ℕ)
 give a rest = some (a, rest)
 
+-- after a name its fields are read; without it, something else
+abbrev pub named : {A : Type 0} → Option (List ℕ) → Reader A → Option (A × List ℕ) → Option (A × List ℕ)
+named none fields other = other
+named (some t) fields other = fields t
+
 -- the digit that a byte is
 unfoldable pub digit_of : ℕ → Option ℕ
 digit_of b = if leb 48 b && leb b 57 then some (b - 48) else none

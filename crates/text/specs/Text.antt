@@ -1,9 +1,9 @@
 -- Text as a list of byte values: names, decimal numbers without spare zeros, lowercase hexadecimal, lines of fields.
 use Rattle.std.specs.Prelude.{ℕ, zero, suc, ◌+◌, ◌/◌, ◌%◌, ◌<◌, List, [], ◌∷◌, ◌++◌, ltb, eqb, if◌then◌else◌}
 use Prim.Native.Char.{code}
-use Prim.Native.String as text
 use Prim.Native.String.{String}
 use Rattle.std.proofs.Math.Option.{Option, none, some}
+use Prim.Native.String as text
 
 -- the bytes of a text in ASCII
 unfoldable pub ascii : String → List ℕ

@@ -12,7 +12,8 @@ use Rattle.theorems.specs.PageCalls.{unlogged, unlogged_lent, Reads}
 use Rattle.theorems.specs.HeapPageHeap.{Trip, WrittenRead, WrittenReadSame}
 use Rattle.widths.proofs.Widths.{words-within, sound-part}
 use Rattle.theorems.proofs.PageReading.{page-taken, same-room}
-use Rattle.theorems.proofs.PageWriting.{Wrote, wrote, taken_back}
+use Rattle.text.proofs.Putting.{taken_back}
+use Rattle.theorems.proofs.PageWriting.{Wrote, wrote}
 
 module _ (l m : Lent) (q : Answer) (m' : Lent) (t : Trip l m q m') where
   trip-wrote : Wrote l t.writes

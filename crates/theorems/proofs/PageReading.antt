@@ -21,12 +21,13 @@ use Rattle.page_parser.specs.Contents.{form_in}
 use Rattle.page_check.specs.Verdict.{verdict}
 use Rattle.page_parser.proofs.Assembly.{form-is}
 use Rattle.page_reader.specs.Reading.{bits_met, names_met, in_range, Left, left, read_into}
-use Rattle.page_reader.proofs.Loaded.{not-ok, passed, few-numbers}
+use Rattle.page_reader.proofs.Loaded.{passed, few-numbers}
 use Rattle.door.specs.HeapCalls.{Outcome, enough}
 use Rattle.door.proofs.Entering.{is-enough}
 use Rattle.page_door.specs.Page.{reading}
 use Rattle.theorems.specs.PageCalls.{Reads, unlogged, done, Scratch, Room, SameSizes, TookIn}
 use Rattle.pages.specs.Reading.{read_page}
+use Rattle.word.proofs.ResultLaws.{not-refused}
 use mathlib.Core.Bool.{Bool, true, false, ◌&&◌}
 use mathlib.Core.List.{List}
 use mathlib.Core.Option.{some}
@@ -98,7 +99,7 @@ pub record Taken (l : Lent) (text : List ℕ) (h : State) : Type 0 where
 -- an answer of success stands for a heap
 answers : (l : Lent) (f : Form) (v : Result State) → (left l f v).answer ≡ ok f → (h : State) × (v ≡ ok h)
 answers l f (ok h) e = (h, refl)
-answers l f (refused n) e = absurd (not-ok n e)
+answers l f (refused n) e = not-refused e
 
 pub taken : (l : Lent) (text : List ℕ) → (read_into l text).answer ≡ ok (form_in text) → (h : State) × Taken l text h
 unfolding read_into

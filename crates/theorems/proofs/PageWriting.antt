@@ -2,15 +2,14 @@
 use Prim.Native.Nat.{ℕ, ◌≤◌, ◌<◌}
 use mathlib.Core.Bool.{Bool, true, false}
 use mathlib.Core.List.{List, ◌++◌, [], ◌∷◌}
-use mathlib.Core.Path.{◌≡◌, refl, sym, ap, ◌∙◌}
+use mathlib.Core.Path.{◌≡◌, refl, ap, ◌∙◌}
 use lib.Dec.{leb}
-use lib.ListN.{length, take, drop}
-use lib.Seq.{take_all}
+use lib.ListN.{length, drop}
 use native.Mathlib.Omega.{arith}
 use native.Mathlib.Nat.{zero-add}
 use borrow.Author.Tests.{le-leb, lt-leb, leb-true}
 use Rattle.word.specs.Result.{refused}
-use Rattle.word.proofs.PutLaws.{take_put, put_all}
+use Rattle.word.proofs.PutLaws.{put_all}
 use Rattle.text.specs.Put.{put_text}
 use Rattle.refusal.specs.Told.{number_of, refused_by, answered, here, nothing}
 use Rattle.refusal.specs.declared.Refusal.{Refusal}
@@ -102,6 +101,3 @@ module _ (l : Lent) {p : Bool} {out marks work : List ℕ} {r : Answer} {out' ma
 
 pub put-start : (out t : List ℕ) → put_text out 0 t ≡ t ++ drop (length t) out
 put-start out t = put_all out 0 t ∙ ap (λ (n : ℕ). t ++ drop n out) (zero-add (length t))
-
-pub taken_back : (out t : List ℕ) → take (length t) (put_text out 0 t) ≡ t
-taken_back out t = ap (λ (n : ℕ). take n (put_text out 0 t)) (sym (zero-add (length t))) ∙ take_put out 0 t (length t) (omega arith) (omega arith) ∙ take_all (length t) t (omega arith)

@@ -4,11 +4,8 @@ use mathlib.Core.Bool.{Bool, true, false, not}
 use mathlib.Core.List.{List, [], ◌∷◌, ◌++◌, append_assoc, append-nil}
 use mathlib.Core.Option.{Option, none, some}
 use Prim.Native.Nat.{ℕ, ◌+◌, ◌-◌}
-use lib.ListN.{length}
-use lib.Dec.{ltb, leb}
-use Rattle.std.specs.Prelude.{if◌then◌else◌}
+use Rattle.std.specs.Prelude.{if◌then◌else◌, filter}
 use Rattle.word.specs.Result.{Result, ok, refused}
-use Rattle.word.specs.Lists.{filter}
 use Rattle.heap.specs.State.{State, slot_at, live, worn, data_size}
 use Rattle.heap.specs.Calls.{Changed, Object, refuse, done, release, on_slot, resolve, alloc_from, edit, edit_slot, write, reissue, take_into, take_slot, free, recycle, seal}
 use Rattle.reach.specs.Reach.{Graph, Starts}
@@ -22,6 +19,8 @@ use Rattle.collection.specs.Collecting.{swept_by, collected}
 use Rattle.collection.specs.Joined.{pins_at, values_of, root_registers, joined_by, joined}
 use Rattle.collection.specs.JoinedDemand.{Pinning}
 use Rattle.theorems.specs.RetiredStays.{Stays, RetiredStays}
+use lib.ListN.{length}
+use lib.Dec.{ltb, leb}
 
 -- nothing joins it
 same : (h h' : State) → h'.retired ≡ h.retired → Stays h h'

@@ -1,13 +1,5 @@
 -- THE ROUND TRIPS OF A TYPE TABLE'S TEXT. Assumes nothing.
 use Prim.Native.Nat.{ℕ, suc, ◌+◌, ◌^◌, ◌≤◌}
-use mathlib.Core.Bool.{Bool, true, false, ◌&&◌}
-use mathlib.Core.List.{List, [], ◌∷◌}
-use mathlib.Core.Option.{Option, none, some}
-use mathlib.Core.Path.{◌≡◌, refl, sym, ap, ◌∙◌}
-use lib.Dec.{leb}
-use lib.ListN.{length, take}
-use native.Mathlib.Omega.{arith}
-use borrow.Author.Tests.{le-leb, lt-leb}
 use Rattle.word.specs.Result.{Result, ok, refused}
 use Rattle.text.specs.Text.{Bytes, All}
 use Rattle.text.specs.Put.{put_text}
@@ -18,8 +10,7 @@ use Rattle.pages.specs.Answer.{text_answer, text_out}
 use Rattle.tables.specs.Table.{Named, most64, most32, table_text}
 use Rattle.tables.specs.Reading.{read_table, named_in}
 use Rattle.tables.specs.Lists.{numbers_in, all_names, good}
-use Rattle.tables.proofs.Laws as tables
-use Rattle.table_writer.specs.Writing.{table_in, writing, leaving}
+use Rattle.table_writer.specs.Writing.{writing, leaving, lent_table}
 use Rattle.table_writer.proofs.TablesInLists.{lists-hold, Lying, lying}
 use Rattle.table_check.specs.Verdict.{verdict}
 use Rattle.table_reader.specs.Reading.{Lists, lists, filled, fits, enough, roomy, table_read, table_told, lists_left, Outcome, read_into, reading}
@@ -27,7 +18,17 @@ use Rattle.table_reader.specs.declared.TableRead.{TableRead}
 use Rattle.widths.specs.Words.{Entries}
 use Rattle.theorems.specs.PageCalls.{WroteText}
 use Rattle.theorems.specs.TableText.{held, Writes, Reads, fronts, ReadWritten, TableWords, Room, TookIn, WrittenRead}
-use Rattle.theorems.proofs.PageWriting.{put-start, taken_back}
+use Rattle.theorems.proofs.PageWriting.{put-start}
+use Rattle.text.proofs.Putting.{taken_back}
+use mathlib.Core.Bool.{Bool, true, false, ◌&&◌}
+use mathlib.Core.List.{List, [], ◌∷◌}
+use mathlib.Core.Option.{Option, none, some}
+use mathlib.Core.Path.{◌≡◌, refl, sym, ap, ◌∙◌}
+use lib.Dec.{leb}
+use lib.ListN.{length, take}
+use native.Mathlib.Omega.{arith}
+use borrow.Author.Tests.{le-leb, lt-leb}
+use Rattle.tables.proofs.Laws as tables
 
 -- WHAT WAS READ
 
@@ -107,17 +108,17 @@ fronts-are d l = λ i.
 -- WHAT WAS WRITTEN
 
 module _ (w f c b names : List ℕ) where
-  nameless : named_in w f c b names ≡ none → table_in w f c b names ≡ refused 17
-  unfolding table_in
-  nameless e = rw (e, table_in)
+  nameless : named_in w f c b names ≡ none → lent_table w f c b names ≡ refused 17
+  unfolding lent_table
+  nameless e = rw (e, lent_table)
 
-  untaken : (d : Named) → named_in w f c b names ≡ some d → table_good w f c b ≡ false → table_in w f c b names ≡ refused 10
-  unfolding table_in
-  untaken d e g = rw (e, table_in, g)
+  untaken : (d : Named) → named_in w f c b names ≡ some d → table_good w f c b ≡ false → lent_table w f c b names ≡ refused 10
+  unfolding lent_table
+  untaken d e g = rw (e, lent_table, g)
 
-  table_is : (d : Named) → named_in w f c b names ≡ some d → table_good w f c b ≡ true → table_in w f c b names ≡ ok d
-  unfolding table_in
-  table_is d e g = rw (e, table_in, g)
+  table_is : (d : Named) → named_in w f c b names ≡ some d → table_good w f c b ≡ true → lent_table w f c b names ≡ ok d
+  unfolding lent_table
+  table_is d e g = rw (e, lent_table, g)
 
 module _ (out : List ℕ) (x : Result Named) {a : Answer} {out' : List ℕ} (e : a ≡ answered here nothing (writing x out)) (h : out' ≡ leaving x out) where
   refused-by : {n : ℕ} → x ≡ refused n → a ≡ refused_by n

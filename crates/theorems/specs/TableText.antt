@@ -6,7 +6,7 @@ use Rattle.text.specs.Put.{put_text}
 use Rattle.refusal.specs.Told.{answered, here, nothing, refused_by}
 use Rattle.refusal.specs.declared.Answer.{Answer}
 use Rattle.tables.specs.Table.{Named}
-use Rattle.table_writer.specs.Writing.{table_in, writing, leaving}
+use Rattle.table_writer.specs.Writing.{writing, leaving, lent_table}
 use Rattle.table_reader.specs.Reading.{Lists, lists, enough, outcome, reading}
 use Rattle.table_reader.specs.declared.TableRead.{TableRead}
 use Rattle.widths.specs.Words.{Entries}
@@ -14,7 +14,7 @@ use Rattle.theorems.specs.PageCalls.{WroteText}
 
 -- the table that lies in lists with its names, or what it is refused for
 abbrev pub held : Lists → Result Named
-held t = table_in t.types t.fields t.consts t.bytes t.names
+held t = lent_table t.types t.fields t.consts t.bytes t.names
 
 -- a call of `write_table` on a table and its names answered a: its contract
 pub record Writes (t : Lists) (out : List ℕ) (a : Answer) (out' : List ℕ) : Type 0 where

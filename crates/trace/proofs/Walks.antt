@@ -10,8 +10,8 @@ use lib.Dec.{leb}
 use Rattle.std.specs.Prelude.{Some, None, Ok, Err}
 use Rattle.ty.specs.Types.{Field, Field.field, Table}
 use Rattle.ty.specs.Words.{word_of, on_word, round_up, Word}
-use Rattle.layout.specs.Layout.{Lay, on_ok, under, used_by, placed, record_of, layout_at}
-use Rattle.layout.specs.Offsets.{if_laid as offsets_if, offsets_from}
+use Rattle.layout.specs.Layout.{Lay, on_ok, under, used_by, placed, record_of, layout_at, on_laid}
+use Rattle.layout.specs.Offsets.{offsets_from}
 use Rattle.refusal.specs.declared.Refusal.TheVariants.{TooLarge}
 use Rattle.layout.specs.declared.Layout.{Layout}
 use Rattle.trace.specs.Places.{Places, Below, only_if, both, if_laid, part_places, field_desc, field_places}
@@ -73,6 +73,6 @@ module _ (T : Table) (next : Below) (end at : ℕ) where
           ((e a u : ℕ) → walk T next end at fs d e (max al a) (used + used_by c u) ≡ if_laid (record_of T (layout_at T 64) fs d e (max al a) (used + used_by c u)) (λ st n. field_places T next end at fs (offsets_from T (layout_at T 64) fs d e (used + used_by c u)) d (used + used_by c u))) →
           if_placed (field_at x off) (λ p. only_if (leb (at + p.offset) end) (both (part_places T next t c (drop used d) (at + p.offset)) (walk T next end at fs d p.end (max al p.align) (used + used_by c p.used))))
           ≡ if_laid (on_ok x (λ v. on_word (Err TooLarge) (placed off v.align v.size) (λ o. record_of T (layout_at T 64) fs d o (max al v.align) (used + used_by c v.used))))
-          (λ st n. field_places T next end at (field t c ∷ fs) (offsets_if x (λ v. on_word [] (word_of (round_up off v.align)) (λ o. on_word [] (word_of (o + v.size)) (λ e. o ∷ offsets_from T (layout_at T 64) fs d e (used + used_by c v.used))))) d used)
+          (λ st n. field_places T next end at (field t c ∷ fs) (on_laid [] x (λ v. on_word [] (word_of (round_up off v.align)) (λ o. on_word [] (word_of (o + v.size)) (λ e. o ∷ offsets_from T (layout_at T 64) fs d e (used + used_by c v.used))))) d used)
       by_layout (Err w) eu later = refl
       by_layout (Ok v) eu later = one_field T next end at t c fs d off al used v l eu (λ e. later e v.align v.used)

@@ -1,13 +1,13 @@
 -- The places of the handles in a value, an object and a slot's data, as byte offsets, and the words there (01, "Traced handles", and "Heap", `collect`;
 -- handles_in, object_handles and value_handles of heap.rs). Places stand in the order in which the Rust pushes handles.
-use Rattle.std.specs.Prelude.{ℕ, zero, suc, ◌+◌, ◌-◌, ◌*◌, ◌/◌, min, Bool, true, false, List, [], ◌∷◌, ◌++◌, map, length, take, drop, leb, eqb, Some, Ok, Err, if◌then◌else◌}
+use Rattle.std.specs.Prelude.{ℕ, zero, suc, ◌+◌, ◌-◌, ◌*◌, ◌/◌, min, Bool, true, false, List, [], ◌∷◌, ◌++◌, map, length, take, drop, leb, eqb, Some, if◌then◌else◌}
 use Rattle.std.proofs.Math.Option.{Option, none, some}
 use Rattle.word.specs.Le.{le}
 use Rattle.ty.specs.Types.{Ty, Ty.missing, Ty.array, Ty.fields, Ty.access, Ty.protected, Field, Field.field, Const, Const.plain, Const.other, Table, type_at, const_at, none as no_const}
 use Rattle.ty.specs.Words.{on_word, Word}
 use Rattle.ty.specs.Walks.{has_handles}
 use Rattle.ty.specs.DescSize.{desc_size}
-use Rattle.layout.specs.Layout.{Lay, layout_of}
+use Rattle.layout.specs.Layout.{Lay, layout_of, on_laid}
 use Rattle.layout.specs.Offsets.{offsets_of}
 
 -- the places, or none where the value cannot be traced
@@ -36,8 +36,7 @@ turns st n = if eqb st 0 then min n 1 else n
 
 -- by a layout's stride and count; what has no layout cannot be traced
 abbrev pub if_laid : Lay → (ℕ → ℕ → Places) → Places
-if_laid (Ok l) f = f l.stride l.count
-if_laid (Err e) f = none
+if_laid l f = on_laid none l (λ z. f z.stride z.count)
 
 abbrev pub if_bytes : Const → (List ℕ → Places) → Places
 if_bytes (plain b) f = f b

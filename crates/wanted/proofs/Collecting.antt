@@ -5,25 +5,25 @@ use mathlib.Core.List.{List, [], map}
 use mathlib.Core.Logic.{◌↔◌}
 use mathlib.Core.Option.{Option}
 use Prim.Native.Nat.{ℕ}
-use native.Mathlib.Omega.{arith}
-use lib.ListN.{length}
 use Rattle.word.specs.Result.{ok, refused}
 use Rattle.handle.proofs.ResolveLaws.{resolve-packed}
 use Rattle.heap.specs.State.{State, slot_at, live}
 use Rattle.heap.specs.Calls.{resolve}
 use Rattle.heap.proofs.Sound.{Sound}
 use Rattle.heap.proofs.Keeping.{live_inside}
-use Rattle.collection.proofs.SweptLaws.{resolved_live}
 use Rattle.collection.specs.Collected.{found, graph, starts}
 use Rattle.collection.specs.Collecting.{collected}
 use Rattle.collection.specs.Inner.Collects.{Collects}
 use Rattle.collection.proofs.Answers.{not-both}
 use Rattle.collection.proofs.Demand.{demand, found_ok}
-use Rattle.wanted.specs.Wanted.{Rising, Objects}
-use Rattle.wanted.specs.Inner.Leaves.{Leaves, Keeps, Answer}
+use Rattle.wanted.specs.Wanted.{Rising, Objects, FewestRoots}
+use Rattle.wanted.specs.Inner.Leaves.{Leaves, Keeps}
 use Rattle.wanted.specs.Way.{roots_for}
 use Rattle.wanted.specs.Outcome.{handle_at, Outcome, Serves, Best}
 use Rattle.wanted.proofs.Roots.{Right, answer, roots-for, refused-exactly, unique}
+use Rattle.heap.proofs.LiveSlots.{resolved_live}
+use native.Mathlib.Omega.{arith}
+use lib.ListN.{length}
 
 module _ (h : State) (handles : ℕ → Option (List ℕ)) where
   -- of a sound heap
@@ -32,7 +32,7 @@ module _ (h : State) (handles : ℕ → Option (List ℕ)) where
   objects L P sound =
       record {
         below = live_inside h;
-        alive = λ x i e. (resolved_live h x i (found_ok (resolve h x) i e)).0;
+        alive = λ x i e. resolved_live h x i (found_ok (resolve h x) i e);
         named = λ i l.
             let b = live_inside h i l in
             ap found (resolve-packed h.tag (length h.slots) (λ j. live (slot_at h j)) (λ j. (slot_at h j).generation) i (omega (arith, sound.slots-fit, sound.slot-range.1)) b (sound.each-slot i b).aged (omega (arith, (sound.each-slot i b).most)) l);
@@ -64,7 +64,7 @@ module _ (h : State) (handles : ℕ → Option (List ℕ)) where
       λ s. record { lives = s.lives; rising = s.rising; leaves = (leaves-outcome (map (handle_at h) is)).1 s.outcome },
     )
 
-    pub answer-best : (is : List ℕ) → Answer (graph h handles) (handle_at h) (starts h [] pins) W is ↔ Best h handles pins W is
+    pub answer-best : (is : List ℕ) → FewestRoots (graph h handles) (handle_at h) (starts h [] pins) W is ↔ Best h handles pins W is
     answer-best is = (
       λ a. record {
         serves = (keeps-serves is).0 a.keeps;

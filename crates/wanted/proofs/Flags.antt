@@ -4,21 +4,20 @@ use mathlib.Core.Bool.{Bool, true, false}
 use mathlib.Core.List.{List, [], ◌∷◌}
 use mathlib.Core.Logic.{◌⊎◌, inl, inr, ⊎_elim}
 use Prim.Native.Nat.{ℕ, zero, suc, ◌≤◌, ◌<◌}
-use native.Mathlib.Omega.{arith}
-use lib.ListN.{length, get_or}
-use Rattle.std.specs.Prelude.{if◌then◌else◌}
-use borrow.Author.Tests.{leb-true}
-use lib.Dec.{leb}
+use Rattle.std.specs.Prelude.{if◌then◌else◌, filter}
 use Rattle.word.proofs.Bools.{and_both}
-use Rattle.heap_calls.specs.Pins.{rising_from, rising}
 use Rattle.reach.specs.Reach.{Graph, Starts, ◌∈◌}
-use Rattle.reach.proofs.Grown.{∈-get_or, ∈-index}
 use Rattle.wanted.specs.Wanted.{Sorted, Rising}
-use Rattle.wanted.specs.Way.{seen, picked, has, candidates, root_slots}
-use Rattle.wanted.specs.Inner.Picked.{down_from, those}
+use Rattle.wanted.specs.Way.{seen, picked, candidates, root_slots}
+use Rattle.wanted.specs.Inner.Picked.{down_from}
 use Rattle.wanted.proofs.Counting.{compared}
 use Rattle.wanted.proofs.Picking.{Within}
-use Rattle.wanted.proofs.Testing.{has_in, in-has}
+use Rattle.reach.proofs.Visiting.{∈-get_or, ∈-index, has-in, in-has}
+use Rattle.word.specs.Lists.{rising_from, rising, has}
+use native.Mathlib.Omega.{arith}
+use lib.ListN.{length, get_or}
+use borrow.Author.Tests.{leb-true}
+use lib.Dec.{leb}
 
 picked-from : (t : List ℕ → ℕ → Bool) (ps ws : List ℕ) (q : ℕ) → q ∈ picked t ps ws → (q ∈ ps) ⊎ (q ∈ ws)
 unfolding picked
@@ -119,43 +118,40 @@ module _ (flag : ℕ → Bool) (W : List ℕ) where
   pub flagged-down : Rising W → (cs : List ℕ) → Sorted (λ x y. y < x) cs → Within cs W → ((i : ℕ) → flag i ≡ has cs i) → down_from flag W (length W) ≡ cs
   flagged-down up cs s w f =
       sorted-same (λ x y. y < x) (λ x y a b. omega arith) (down_from flag W (length W)) cs (down-falling up (length W) (omega arith)) s
-      (λ x m. has_in cs x (sym (f x) ∙ (down-in (length W) x m).3))
+      (λ x m. has-in cs x (sym (f x) ∙ (down-in (length W) x m).3))
       (λ x m. let i = ∈-index x W (w x m) in subst (λ (y : ℕ). y ∈ down_from flag W (length W)) i.2 (in-down (length W) i.0 i.1 (ap flag i.2 ∙ f x ∙ in-has cs x m)))
 
-pub those-in : (flag : ℕ → Bool) (W : List ℕ) (x : ℕ) → x ∈ those flag W → (x ∈ W) × (flag x ≡ true)
-unfolding those
+pub those-in : (flag : ℕ → Bool) (W : List ℕ) (x : ℕ) → x ∈ filter flag W → (x ∈ W) × (flag x ≡ true)
 those-in flag [] x m = absurd m
 those-in flag (w ∷ ws) x m = go (flag w) refl m (those-in flag ws x)
   where
-    go : (b : Bool) → flag w ≡ b → x ∈ (if b then w ∷ those flag ws else those flag ws) → (x ∈ those flag ws → (x ∈ ws) × (flag x ≡ true)) → (x ∈ (w ∷ ws)) × (flag x ≡ true)
+    go : (b : Bool) → flag w ≡ b → x ∈ (if b then w ∷ filter flag ws else filter flag ws) → (x ∈ filter flag ws → (x ∈ ws) × (flag x ≡ true)) → (x ∈ (w ∷ ws)) × (flag x ≡ true)
     go true e (inl a) rec = (inl a, ap flag a ∙ e)
     go true e (inr a) rec = (inr (rec a).0, (rec a).1)
     go false e v rec = (inr (rec v).0, (rec v).1)
 
-in-those : (flag : ℕ → Bool) (W : List ℕ) (x : ℕ) → x ∈ W → flag x ≡ true → x ∈ those flag W
-unfolding those
+in-those : (flag : ℕ → Bool) (W : List ℕ) (x : ℕ) → x ∈ W → flag x ≡ true → x ∈ filter flag W
 in-those flag [] x m f = absurd m
 in-those flag (w ∷ ws) x (inl e) f = rw (ap flag (sym e) ∙ f) (inl e)
 in-those flag (w ∷ ws) x (inr m) f = keep (flag w) (in-those flag ws x m f)
   where
-    keep : (b : Bool) → x ∈ those flag ws → x ∈ (if b then w ∷ those flag ws else those flag ws)
+    keep : (b : Bool) → x ∈ filter flag ws → x ∈ (if b then w ∷ filter flag ws else filter flag ws)
     keep true k = inr k
     keep false k = k
 
-those-rising : (flag : ℕ → Bool) (W : List ℕ) → Rising W → Rising (those flag W)
-unfolding those
+those-rising : (flag : ℕ → Bool) (W : List ℕ) → Rising W → Rising (filter flag W)
 those-rising flag [] up = tt
 those-rising flag (w ∷ ws) up = go (flag w) (those-rising flag ws up.1)
   where
-    go : (b : Bool) → Rising (those flag ws) → Rising (if b then w ∷ those flag ws else those flag ws)
+    go : (b : Bool) → Rising (filter flag ws) → Rising (if b then w ∷ filter flag ws else filter flag ws)
     go true r = (λ x m. up.0 x (those-in flag ws x m).0, r)
     go false r = r
 
 -- flags of a rising list of W's: what stands under them
-pub flagged-up : (flag : ℕ → Bool) (W : List ℕ) → Rising W → (rs : List ℕ) → Rising rs → Within rs W → ((i : ℕ) → flag i ≡ has rs i) → those flag W ≡ rs
+pub flagged-up : (flag : ℕ → Bool) (W : List ℕ) → Rising W → (rs : List ℕ) → Rising rs → Within rs W → ((i : ℕ) → flag i ≡ has rs i) → filter flag W ≡ rs
 flagged-up flag W up rs s w f =
-    sorted-same ◌<◌ (λ x y a b. omega arith) (those flag W) rs (those-rising flag W up) s
-    (λ x m. has_in rs x (sym (f x) ∙ (those-in flag W x m).1))
+    sorted-same ◌<◌ (λ x y a b. omega arith) (filter flag W) rs (those-rising flag W up) s
+    (λ x m. has-in rs x (sym (f x) ∙ (those-in flag W x m).1))
     (λ x m. in-those flag W x (w x m) (f x ∙ in-has rs x m))
 
 -- the test of 14

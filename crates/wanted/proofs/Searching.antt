@@ -5,25 +5,26 @@ use mathlib.Core.List.{List, [], ◌∷◌}
 use mathlib.Core.Logic.{◌⊎◌, inl, inr, ⊎_elim}
 use mathlib.Core.Option.{Option, none, some}
 use Prim.Native.Nat.{ℕ, zero, suc, ◌+◌, ◌-◌, ◌≤◌, ◌<◌}
+use Rattle.std.specs.Prelude.{if◌then◌else◌, filter}
+use Rattle.word.specs.Result.{ok, refused}
+use Rattle.reach.specs.Reach.{Graph, Starts, ◌∈◌}
+use Rattle.reach.specs.Marking.{State, visit, drained, marking, and_then}
+use Rattle.wanted.specs.Wanted.{Rising, Objects}
+use Rattle.wanted.specs.Way.{candidates, root_slots, possible, roots_for}
+use Rattle.wanted.specs.Inner.Picked.{down_from, those}
+use Rattle.wanted.specs.Search.{Going, going, noted, noting, meeting, upward, again, downward, as_many, secondly, notes_of, searched_by, searched}
+use Rattle.wanted.proofs.Picking.{Within}
+use Rattle.wanted.proofs.Flags.{rising-at}
+use Rattle.wanted.proofs.Steps.{Through, Past, pass, past-pass, pick, past-pick, stop, finish, dead-none, stuck-none}
+use Rattle.reach.proofs.Visiting.{∈-get_or}
+use Rattle.word.specs.Lists.{has}
+use Rattle.wanted.proofs.BetweenPasses.{past-begin, down-skip, down-next, test-first, begin-first, begin-second, answered, none-answered}
 use native.Mathlib.Decide.{ℕ_discrete}
 use native.Mathlib.Omega.{arith}
 use lib.ListN.{length, get_or, set, length-set}
 use lib.Seq.{get_or-set_same, get_or-set_other}
 use lib.Dec.{eqb}
 use borrow.Author.Tests.{eq-eqb, ne_eqb}
-use Rattle.std.specs.Prelude.{if◌then◌else◌}
-use Rattle.word.specs.Result.{ok, refused}
-use Rattle.reach.specs.Reach.{Graph, Starts, ◌∈◌}
-use Rattle.reach.specs.Marking.{State, visit, drained, marking}
-use Rattle.reach.proofs.Grown.{∈-get_or}
-use Rattle.wanted.specs.Wanted.{Rising, Objects}
-use Rattle.wanted.specs.Way.{candidates, root_slots, has, possible, roots_for}
-use Rattle.wanted.specs.Inner.Picked.{down_from, those}
-use Rattle.wanted.specs.Search.{Going, going, noted, noting, and_then, meeting, upward, again, downward, as_many, secondly, notes_of, searched_by, searched}
-use Rattle.wanted.proofs.Picking.{Within}
-use Rattle.wanted.proofs.Flags.{rising-at}
-use Rattle.wanted.proofs.Steps.{Through, Past, pass, past-pass, pick, past-pick, stop, finish, dead-none, stuck-none}
-use Rattle.wanted.proofs.Ends.{past-begin, down-skip, down-next, test-first, begin-first, begin-second, answered, none-answered}
 
 -- ---- notes
 
@@ -183,7 +184,7 @@ module _ (G : Graph) (handle : ℕ → ℕ) (n : ℕ) (z : Objects G handle n) (
   -- what the notes at the end say
   abbrev pub Found : Option (List ℕ) → Type 0
   Found none = roots_for G S n W ≡ refused 21
-  Found (some notes) = roots_for G S n W ≡ ok (those (noted 2 notes) W)
+  Found (some notes) = roots_for G S n W ≡ ok (filter (noted 2 notes) W)
 
   fell : (o : Option Going) → possible G S n W ≡ true → Falls (root_slots G S n W) o → Found (notes_of o)
   fell none p e = none-answered G S n W e

@@ -2,7 +2,7 @@
 use Rattle.std.specs.Prelude.{List, [], ◌∷◌, Bool, ℕ, zero, suc, ◌-◌, length, get_or, set, eqb, if◌then◌else◌}
 use Rattle.std.proofs.Math.Option.{Option, none, some}
 use Rattle.reach.specs.Reach.{Graph, Starts}
-use Rattle.reach.specs.Marking.{State, visit, drained, marking}
+use Rattle.reach.specs.Marking.{State, visit, and_then, drained, marking}
 
 -- a marking, and what is noted of each slot: 1 that it is a candidate, 2 that it is a root
 pub record Going : Type 0 where
@@ -18,10 +18,6 @@ noted v notes i = eqb (get_or notes i 0) v
 abbrev pub noting : Option State → (notes : List ℕ) → Option Going
 noting none notes = none
 noting (some s) notes = some (going s notes)
-
-abbrev pub and_then : Option Going → (Going → Option Going) → Option Going
-and_then none f = none
-and_then (some g) f = f g
 
 -- slot w of n is met: unless it is marked, it and what it leads to are marked, and v is noted of it. None where that can't be traced
 unfoldable pub meeting : Graph → (n v w : ℕ) → Going → Option Going

@@ -11,15 +11,15 @@ use Rattle.refusal.specs.declared.Refusal.TheVariants.{TypeTable, Pins}
 use Rattle.std.specs.Prelude.{Err}
 use Rattle.ty.specs.Check.{table_good}
 use Rattle.heap.specs.Lent.{Lent, view, slot_count}
-use Rattle.heap_calls.specs.Pins.{rising}
 use Rattle.traced.specs.Listing.{written_to}
 use Rattle.traced.specs.Inner.Lists.{Lists}
 use Rattle.door.specs.HeapCalls.{test, enough, heap_tests, zeros, asked, asked_of, Entry, ready}
 use Rattle.door.proofs.Entering.{and-holds, and-fails, and-more, holding, marks-zero, work-zero, ask-refused, ask-ready, whether-not, whether-ready, zeros-again, zeros-room}
-use Rattle.wanted_door.specs.Inner.Listing.{CanSearch}
 use Rattle.wanted_door.specs.RootsFor.{root_handles, Given, table_in, wanted_tests, tests, roots_call, roots_out, RightRoots}
 use Rattle.wanted_door.proofs.Theorem.{rightly-found}
 use Rattle.door.specs.Inner.Entered.{Entered}
+use Rattle.word.specs.Lists.{rising}
+use Rattle.mark.specs.Inner.Scratch.{CanMark}
 use lib.ListN.{length, replicate, length-replicate}
 use lib.Dec.{leb}
 
@@ -50,7 +50,7 @@ zeros-on : (m m' m'' m''' : List ℕ) → m' ≡ zeros m → length m'' ≡ leng
 zeros-on m m' m'' m''' a b c = c ∙ ap (λ (k : ℕ). replicate k 0) (b ∙ ap length a ∙ length-replicate (length m) 0)
 
 module _ (g : Given) (l : Lent) {m w m' w' : List ℕ} {e : Entry} (s : Entered (m ∷ w ∷ []) (tests g m w l) e (m' ∷ w' ∷ [])) where
-  pub can-search : e ≡ ready → CanSearch l g.wanted m' w'
+  pub can-search : e ≡ ready → CanMark l g.wanted m' w'
   unfolding enough
   can-search i =
       let t = and_both (leb (slot_count l) (length m)) (leb (slot_count l) (length w)) (holding s 0 i) in

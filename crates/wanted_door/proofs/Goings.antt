@@ -13,7 +13,8 @@ use Rattle.reach.specs.Reach.{Graph}
 use Rattle.mark.specs.declared.queue.Queue.{Queue}
 use Rattle.mark.specs.Inner.Queues.{IsReady, SameLoans, counted}
 use Rattle.mark.proofs.States.{same-again, then-same}
-use Rattle.wanted.specs.Search.{Going, and_then, meeting, upward, again, downward}
+use Rattle.wanted.specs.Search.{Going, meeting, upward, again, downward}
+use Rattle.reach.specs.Marking.{and_then}
 use Rattle.wanted_door.specs.Inner.Picking.{going_in, Goes, GoesTo}
 
 -- ---- rising

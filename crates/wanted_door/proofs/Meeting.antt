@@ -1,14 +1,5 @@
 -- One slot met: the code's marks and work are what crate `wanted` says. Assumes nothing.
 use Prim.Native.Nat.{ℕ, zero, suc, ◌+◌, ◌-◌, ◌*◌, ◌%◌, ◌/◌, ◌≤◌, ◌<◌}
-use mathlib.Core.Path.{◌≡◌, refl, sym, ap, ◌∙◌, subst}
-use mathlib.Core.Bool.{Bool, true, not, ◌&&◌}
-use mathlib.Core.Option.{Option, none, some}
-use mathlib.Core.List.{List, [], ◌∷◌, map}
-use lib.ListN.{length, get_or, take, set, length-set, get_or-map}
-use lib.Seq.{map-set_same}
-use lib.Dec.{eqb, ltb}
-use borrow.Author.Tests.{eq-eqb, ne_eqb, ltb-true, lt-ltb}
-use native.Mathlib.Omega.{arith}
 use Rattle.std.specs.Prelude.{Some, None}
 use Rattle.word.specs.Run.{run}
 use Rattle.word.proofs.Bools.{and_both}
@@ -20,11 +11,20 @@ use Rattle.reach.specs.Reach.{Graph}
 use Rattle.reach.specs.Marking.{State, visit, drained}
 use Rattle.reach.specs.Inner.Good.{Good}
 use Rattle.mark.specs.Inner.Scratch.{low, high, state_of, Scratch, Holds, Traces, NotedBy}
-use Rattle.mark.proofs.Bridge.{queue-met, pin-noted}
-use Rattle.mark.proofs.Draining.{queue-length}
 use Rattle.wanted.specs.Search.{Going, noted, meeting, again}
 use Rattle.wanted.proofs.Searching.{meeting-old, meeting-new, again-yes, again-no}
 use Rattle.wanted_door.specs.Inner.Picking.{going_of, Goes}
+use Rattle.mark.proofs.TracedIntoQueue.{queue-met, pin-noted}
+use Rattle.mark.proofs.QueueLoop.{queue-length}
+use mathlib.Core.Path.{◌≡◌, refl, sym, ap, ◌∙◌, subst}
+use mathlib.Core.Bool.{Bool, true, not, ◌&&◌}
+use mathlib.Core.Option.{Option, none, some}
+use mathlib.Core.List.{List, [], ◌∷◌, map}
+use lib.ListN.{length, get_or, take, set, length-set, get_or-map}
+use lib.Seq.{map-set_same}
+use lib.Dec.{eqb, ltb}
+use borrow.Author.Tests.{eq-eqb, ne_eqb, ltb-true, lt-ltb}
+use native.Mathlib.Omega.{arith}
 
 -- ---- is there an object
 

@@ -1,6 +1,6 @@
 -- The ways out of the listing, and of the search on a checked heap. Assumes nothing.
 use Prim.Native.Nat.{ℕ, ◌/◌, ◌≤◌, ◌<◌}
-use Rattle.std.specs.Prelude.{if◌then◌else◌, Ok, Err}
+use Rattle.std.specs.Prelude.{if◌then◌else◌, Ok, filter, Err}
 use Rattle.word.specs.Put.{put}
 use Rattle.word.specs.Result.{Result, ok, refused}
 use Rattle.word.proofs.RunLaws.{first-get}
@@ -13,13 +13,11 @@ use Rattle.heap.specs.Lent.{Lent, lent, view, slot_count, pool_size}
 use Rattle.heap.proofs.Testing.{formed-tested}
 use Rattle.traced.specs.Inner.Lists.{Lists}
 use Rattle.reach.specs.Reach.{Graph, Starts, ◌∈◌}
-use Rattle.reach.proofs.Grown.{∈-index}
 use Rattle.collection.specs.Shown.{shown}
 use Rattle.collection.specs.Collected.{graph, starts}
 use Rattle.mark.specs.Inner.Graph.{Fit, graph_in}
-use Rattle.mark.specs.Inner.Scratch.{high}
+use Rattle.mark.specs.Inner.Scratch.{high, CanMark, Clear}
 use Rattle.mark.specs.Inner.Told.{starts_of, Ready}
-use Rattle.mark.proofs.Draining.{first-clear}
 use Rattle.mark.proofs.Formed.{formed-fit, formed-few, formed-count, formed-graph, generation-same}
 use Rattle.wanted.specs.Search.{noted, searched}
 use Rattle.wanted.specs.Outcome.{handle_at}
@@ -27,9 +25,10 @@ use Rattle.wanted.proofs.Flags.{rises, those-in}
 use Rattle.wanted.proofs.Collecting.{objects}
 use Rattle.wanted.proofs.Searching.{Found, search-found}
 use Rattle.wanted_door.specs.RootsFor.{listed, root_handles}
-use Rattle.wanted_door.specs.Inner.Picking.{notes_if, Inside, Clear}
-use Rattle.wanted_door.specs.Inner.Listing.{handles_in, named_in, CanName, CanSearch}
-use Rattle.wanted.specs.Inner.Picked.{those}
+use Rattle.wanted_door.specs.Inner.Picking.{notes_if, Inside}
+use Rattle.wanted_door.specs.Inner.Listing.{handles_in, named_in, CanName}
+use Rattle.reach.proofs.Visiting.{∈-index}
+use Rattle.mark.proofs.QueueLoop.{first-clear}
 use mathlib.Core.Path.{◌≡◌, refl, sym, ap, ◌∙◌, subst}
 use mathlib.Core.Bool.{Bool, true, false}
 use mathlib.Core.Logic.{inl, inr}
@@ -74,7 +73,7 @@ zero-notes n i = get_or-map high (replicate n 0) i 0 ∙ go (dec_lt i n)
     go (yes h) = ap high (get_or-replicate n i 0 0 h)
     go (no h) = ap high (get_or-eq_default (replicate n 0) 0 {n = i} (let k : length (replicate {A = ℕ} n 0) ≤ i = omega (arith, length-replicate {A = ℕ} n 0) in k))
 
-module _ (h : Heap) (narrow wide pool W marks work : List ℕ) (c : CanSearch (lent h narrow wide pool) W marks work) where
+module _ (h : Heap) (narrow wide pool W marks work : List ℕ) (c : CanMark (lent h narrow wide pool) W marks work) where
   abbrev l : Lent
   l = lent h narrow wide pool
 
@@ -96,10 +95,7 @@ module _ (h : Heap) (narrow wide pool W marks work : List ℕ) (c : CanSearch (l
 
   pub search-clear : Clear h.slots (take h.slots marks) work
   search-clear =
-      record {
-        room = record { few = formed-few h narrow wide pool c.formed; size = length-take-le h.slots marks ready.marked; words = ready.queued };
-        clear = first-clear h.slots marks work ready;
-      }
+      record { few = formed-few h narrow wide pool c.formed; clear = first-clear h.slots marks work ready; room = ready.queued }
 
   pub can-name : Inside W h.slots → (work' : List ℕ) → length work' ≡ length work → CanName narrow W work'
   can-name inside work' e =
@@ -147,10 +143,10 @@ module _ (h : Heap) (narrow wide pool W marks work : List ℕ) (c : CanSearch (l
           ap (packed h.tag i) (sym (first-get S narrow i b) ∙ generation-same h narrow wide pool c.formed i))
 
       pub roots-found : r ≡ true → Inside W h.slots → (reply : Reply) (out' : List ℕ)
-          → Lists (named_in h.tag narrow (those (noted 2 (map high work')) W) (length out)) reply out out' → Lists (root_handles T pins W (length out) (view (lent h narrow wide pool))) reply out out'
+          → Lists (named_in h.tag narrow (filter (noted 2 (map high work')) W) (length out)) reply out out' → Lists (root_handles T pins W (length out) (view (lent h narrow wide pool))) reply out out'
       unfolding root_handles listed
       roots-found i inside reply out' p =
-          let is : List ℕ = those (noted 2 (map high work')) W in
+          let is : List ℕ = filter (noted 2 (map high work')) W in
           let q : root_handles T pins W (length out) (view l) ≡ (if leb (length is) (length out) then ok (map (handle_at (view l)) is) else refused 7) =
           ap (λ (x : Result (List ℕ)). listed (view l) x (length out)) (at true i) in
           subst (λ (x : Result (List ℕ)). Lists x reply out out')

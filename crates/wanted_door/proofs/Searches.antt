@@ -11,34 +11,27 @@ use Rattle.trace.specs.Inner.Emit.{Answer}
 use Rattle.std.specs.Prelude.{Option as Maybe, Some, None, if◌then◌else◌}
 use Rattle.std.specs.Prelude.{is_some}
 use Rattle.reach.specs.Reach.{Graph}
-use Rattle.reach.specs.Marking.{State, drained, marking}
-use Rattle.mark.specs.Inner.Scratch.{high, state_of, Scratch, Traces, NotedBy, seeded_from}
+use Rattle.reach.specs.Marking.{State, drained, marking, and_then}
+use Rattle.mark.specs.Inner.Scratch.{high, state_of, Scratch, Traces, NotedBy, seeded_from, Clear}
 use Rattle.mark.specs.declared.queue.Queue.{Queue}
 use Rattle.mark.specs.Inner.Queues.{counted}
 use Rattle.mark.specs.Inner.Told.{starts_of}
-use Rattle.mark.proofs.States.{scratch-start}
-use Rattle.mark.proofs.Draining.{queue-length}
-use Rattle.wanted.specs.Search.{Going, going, noting, and_then, upward, downward, as_many, firstly, secondly, notes_of, searched_by, searched}
+use Rattle.mark.proofs.QueueLoop.{queue-length}
+use Rattle.wanted.specs.Search.{Going, going, noting, upward, downward, as_many, firstly, secondly, notes_of, searched_by, searched}
 use Rattle.wanted.proofs.Searching.{upward-live}
-use Rattle.wanted_door.specs.Inner.Picking.{going_of, Goes, notes_if, Inside, Room, Clear}
+use Rattle.wanted_door.specs.Inner.Picking.{going_of, Goes, notes_if, Inside, Room}
 
 pub counted-some : (r : Maybe Unit) (q : Queue) → is_some (counted r q) ≡ is_some r
 counted-some (Some u) q = refl
 counted-some None q = refl
 
-pub clear-scratch : (slots : ℕ) (marks work : List ℕ) → Clear slots marks work → Scratch slots marks work 0
-clear-scratch slots marks work c = scratch-start slots marks work c.room.few c.clear c.room.words
-
 -- marks that were made zero
 pub cleared : (slots : ℕ) (marks work marks' : List ℕ) → Room slots marks work → marks' ≡ replicate (length marks) 0 → Clear slots marks' work
 cleared slots marks work marks' r e =
-    record {
-      room = record { few = r.few; size = ap length e ∙ length-replicate (length marks) 0 ∙ r.size; words = r.words };
-      clear = e ∙ ap (λ (n : ℕ). replicate n 0) r.size;
-    }
+    record { few = r.few; clear = e ∙ ap (λ (n : ℕ). replicate n 0) r.size; room = r.words }
 
 pub room_after : (slots : ℕ) (marks work marks' work' : List ℕ) → Clear slots marks work → length marks' ≡ length marks → length work' ≡ length work → Room slots marks' work'
-room_after slots marks work marks' work' c a b = record { few = c.room.few; size = a ∙ c.room.size; words = omega (arith, c.room.words) }
+room_after slots marks work marks' work' c a b = record { few = c.few; size = a ∙ ap length c.clear ∙ length-replicate slots 0; words = omega (arith, c.room) }
 
 module _ (G : Graph) (slots : ℕ) (sealed pins marks work : List ℕ) (c : Clear slots marks work) (r : Answer) (m₁ w₁ : List ℕ)
     (t : Traces r slots m₁ w₁ (drained G slots (seeded_from G.resolve G.live (state_of marks work 0) [] sealed pins) 0)) (f : NotedBy r work w₁) where

@@ -1,20 +1,12 @@
 -- THE THEOREM of [10] for the public call: whatever satisfies its equations has the right roots. Assumes nothing.
 use Prim.Native.Nat.{ℕ, ◌≤◌, ◌<◌}
-use mathlib.Core.Path.{◌≡◌, refl, sym, ap, ◌∙◌, subst}
-use mathlib.Core.Bool.{Bool, true, false}
-use mathlib.Core.List.{List, [], ◌∷◌, map}
-use lib.ListN.{length, length-map}
-use borrow.Author.Tests.{le-leb, lt-leb}
-use native.Mathlib.Decide.{dec_lt}
-use native.Mathlib.Omega.{arith}
-use Rattle.std.specs.Prelude.{if◌then◌else◌}
+use Rattle.std.specs.Prelude.{if◌then◌else◌, Ok, Err}
 use Rattle.word.specs.Put.{put}
 use Rattle.word.specs.Result.{Result, ok, refused}
 use Rattle.refusal.specs.Told.{number_of, told, answered, nothing}
 use Rattle.refusal.specs.declared.Answer.{Answer}
 use Rattle.refusal.specs.declared.Refusal.{Refusal}
 use Rattle.refusal.specs.declared.Refusal.TheVariants.{ShortList, NoRoots}
-use Rattle.std.specs.Prelude.{Ok, Err}
 use Rattle.ty.specs.Types.{Table}
 use Rattle.traced.specs.Listing.{written_to}
 use Rattle.heap.specs.State.{State}
@@ -23,46 +15,35 @@ use Rattle.heap.proofs.Sound.{Sound}
 use Rattle.heap.proofs.Testing.{formed-tested}
 use Rattle.collection.specs.Shown.{shown}
 use Rattle.collection.specs.Collected.{graph, starts}
-use Rattle.door.specs.HeapCalls.{Test, admitted, whether, Asked, asked_of}
-use Rattle.door.specs.HeapCalls.{Entry}
-use Rattle.door.specs.HeapCalls.{ready}
-use Rattle.door.proofs.Entering.{apart, all_hold, asking-not, asking-ready, same-why}
+use Rattle.door.specs.HeapCalls.{admitted, whether, Asked, asked_of, Entry, ready}
+use Rattle.door.proofs.Entering.{apart, all_hold, asking-not, asking-ready, among}
 use Rattle.wanted.specs.Wanted.{Rising}
 use Rattle.wanted.specs.Way.{roots_for}
 use Rattle.wanted.specs.Outcome.{handle_at}
 use Rattle.wanted.proofs.Flags.{rises}
-use Rattle.wanted.proofs.Ends.{two-answers}
 use Rattle.wanted.proofs.Collecting.{best, none-serves, best-unique}
 use Rattle.wanted_door.specs.RootsFor.{listed, root_handles, Given, table_in, tests, roots_call, roots_out, Serving, Answering, RightRoots}
+use Rattle.refusal.proofs.Numbers.{never-0, number}
+use Rattle.wanted.proofs.BetweenPasses.{two-answers}
+use mathlib.Core.Path.{◌≡◌, refl, sym, ap, ◌∙◌}
+use mathlib.Core.Bool.{Bool}
+use mathlib.Core.List.{List, [], ◌∷◌, map}
+use lib.ListN.{length, length-map}
+use borrow.Author.Tests.{le-leb, lt-leb}
+use native.Mathlib.Decide.{dec_lt}
+use native.Mathlib.Omega.{arith}
 
 -- ---- what the tests may answer
 
-abbrev Each : (Refusal → Type 0) → List Test → Type 0
-Each P [] = Unit {0}
-Each P (t ∷ ts) = P t.why × Each P ts
-
-first-why : (P : Refusal → Type 0) (b : Bool) (x why : Refusal) (e : Entry) → P x → (e ≡ Err why → P why) → (if b then e else Err x) ≡ Err why → P why
-first-why P true x why e p k q = k q
-first-why P false x why e p k q = subst P (same-why q) p
-
--- the refusal is that of one of them
-among : (P : Refusal → Type 0) (ts : List Test) → Each P ts → (why : Refusal) → admitted ts ≡ Err why → P why
-unfolding admitted
-among P [] x why e = apart (sym e)
-among P (t ∷ ts) x why e = first-why P t.holds t.why why (admitted ts) x.0 (λ q. among P ts x.1 why q) e
-
--- neither done, nor 21, nor 7
+-- neither 21 nor 7
 abbrev Early : Refusal → Type 0
-Early why = (number_of why ≡ 0 → ⊥) × (number_of why ≡ 21 → ⊥) × (number_of why ≡ 7 → ⊥)
+Early why = (number_of why ≡ 21 → ⊥) × (number_of why ≡ 7 → ⊥)
 
-is-early : (n : ℕ) → 0 < n → n < 21 → (n ≡ 7 → ⊥) → (n ≡ 0 → ⊥) × (n ≡ 21 → ⊥) × (n ≡ 7 → ⊥)
-is-early n a b c = (λ e. omega arith, λ e. omega arith, c)
+is-early : (n : ℕ) → n < 21 → (n ≡ 7 → ⊥) → (n ≡ 21 → ⊥) × (n ≡ 7 → ⊥)
+is-early n b c = (λ e. omega arith, c)
 
 differ : {X : Type 0} (m n : ℕ) → (m ≡ n → ⊥) → m ≡ n → X
 differ m n d e = absurd (d e)
-
-number : {a b : Answer} → a ≡ b → a.number ≡ b.number
-number e = ap (λ (x : Answer). x.number) e
 
 module _ (g : Given) (marks work : List ℕ) (l : Lent) (out : List ℕ) (a : Answer) (scratch : List (List ℕ)) (out' : List ℕ)
     (e : asked_of a scratch ≡ roots_call g marks work l out) (f : out' ≡ roots_out g marks work l out) where
@@ -82,7 +63,7 @@ module _ (g : Given) (marks work : List ℕ) (l : Lent) (out : List ℕ) (a : An
   question = root_handles T g.pins W (length out)
 
   early : (why : Refusal) → admitted (tests g marks work l) ≡ Err why → Early why
-  early why i = among Early (tests g marks work l) (is-early 18 (omega arith) (omega arith) (λ x. omega arith), (is-early 1 (omega arith) (omega arith) (λ x. omega arith), (is-early 10 (omega arith) (omega arith) (λ x. omega arith), (is-early 14 (omega arith) (omega arith) (λ x. omega arith), (is-early 14 (omega arith) (omega arith) (λ x. omega arith), tt))))) why i
+  early why i = among Early (tests g marks work l) (is-early 18 (omega arith) (λ x. omega arith), (is-early 1 (omega arith) (λ x. omega arith), (is-early 10 (omega arith) (λ x. omega arith), (is-early 14 (omega arith) (λ x. omega arith), (is-early 14 (omega arith) (λ x. omega arith), tt))))) why i
 
   sound : admitted (tests g marks work l) ≡ ready → Sound (slot_count l) (pool_size l) h
   sound i = (formed-tested l (all_hold (tests g marks work l) 1 i)).sound
@@ -128,7 +109,7 @@ module _ (g : Given) (marks work : List ℕ) (l : Lent) (out : List ℕ) (a : An
       record {
         no_roots = (
           λ q. by_call
-              (λ why i r. absurd ((early why i).1 (sym (number r) ∙ number q)))
+              (λ why i r. absurd ((early why i).0 (sym (number r) ∙ number q)))
               (λ i n r. (i, n))
               (λ i is b k r. differ 7 21 (λ x. omega arith) (sym (number r) ∙ number q))
               (λ i is b k r o. differ 0 21 (λ x. omega arith) (sym (number r) ∙ number q)),
@@ -140,7 +121,7 @@ module _ (g : Given) (marks work : List ℕ) (l : Lent) (out : List ℕ) (a : An
         );
         too_short = (
           λ q. by_call
-              (λ why i r. absurd ((early why i).2 (sym (number r) ∙ number q)))
+              (λ why i r. absurd ((early why i).1 (sym (number r) ∙ number q)))
               (λ i n r. differ 21 7 (λ x. omega arith) (sym (number r) ∙ number q))
               (λ i is b k r. (i, (is, b, k)))
               (λ i is b k r o. differ 0 7 (λ x. omega arith) (sym (number r) ∙ number q)),
@@ -151,7 +132,7 @@ module _ (g : Given) (marks work : List ℕ) (l : Lent) (out : List ℕ) (a : An
               (λ i is b k r o. absurd (omega (arith, ap length (best-unique h (shown T h) g.pins W is q.1.0 b q.1.1), q.1.2, k))),
         );
         best = λ q. by_call
-            (λ why i r. absurd ((early why i).0 (sym (number r) ∙ q)))
+            (λ why i r. never-0 why (sym (number r) ∙ q))
             (λ i n r. differ 21 0 (λ x. omega arith) (sym (number r) ∙ q))
             (λ i is b k r. differ 7 0 (λ x. omega arith) (sym (number r) ∙ q))
             (λ i is b k r o. (i, (is, b, r, o)));

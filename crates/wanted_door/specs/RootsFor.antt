@@ -1,25 +1,23 @@
 -- Request [10], roots for a wanted set, as a public call: 18, 1, 10, 14, then 21, then 7. What is answered is crate `wanted`'s `rootsFor`, which its laws equate with the best list; and
 -- what is right of it is said here once more in the request's words, by what `collect` does with the answer.
-use Rattle.std.specs.Prelude.{◌≡◌, List, [], ◌∷◌, ◌++◌, map, ◌↔◌, ℕ, ◌<◌, length, leb, if◌then◌else◌}
+use Rattle.std.specs.Prelude.{◌≡◌, List, [], ◌∷◌, ◌++◌, map, ◌↔◌, ℕ, ◌<◌, length, leb, if◌then◌else◌, Ok, Err}
 use Rattle.word.specs.Put.{put}
 use Rattle.word.specs.Result.{Result, ok, refused}
 use Rattle.refusal.specs.Told.{told, nothing}
 use Rattle.refusal.specs.declared.Answer.{Answer}
 use Rattle.refusal.specs.declared.Refusal.TheVariants.{TypeTable, Pins, ShortList, NoRoots}
-use Rattle.std.specs.Prelude.{Ok, Err}
 use Rattle.ty.specs.Types.{Table}
 use Rattle.ty.specs.View.{table_of}
 use Rattle.ty.specs.Check.{table_good}
 use Rattle.traced.specs.Listing.{written_to}
 use Rattle.heap.specs.State.{State}
 use Rattle.heap.specs.Lent.{Lent, view}
-use Rattle.heap_calls.specs.Pins.{rising}
 use Rattle.collection.specs.Shown.{shown}
 use Rattle.collection.specs.Collected.{graph, starts}
-use Rattle.door.specs.HeapCalls.{Test, test, admitted, whether, heap_tests, Asked, asking}
-use Rattle.door.specs.HeapCalls.{ready}
+use Rattle.door.specs.HeapCalls.{Test, test, admitted, whether, heap_tests, Asked, asking, ready}
 use Rattle.wanted.specs.Way.{roots_for}
 use Rattle.wanted.specs.Outcome.{handle_at, Outcome, Best}
+use Rattle.word.specs.Lists.{rising}
 
 -- the handles of these slots into a list with room for so many, or 7; no slots, the refusal
 unfoldable pub listed : State → Result (List ℕ) → (room : ℕ) → Result (List ℕ)

@@ -2,18 +2,17 @@
 // the heap (1), the type table (10), pins and wanted slots (14); then 21 where no roots do it, and 7. `marks` and `work` are scratch.
 #![tactic(auto)]
 
-ghost use Rattle.std.specs.Prelude.{◌≡◌, [], ◌∷◌, map, length, IfOk};
+ghost use Rattle.std.specs.Prelude.{◌≡◌, [], ◌∷◌, map, length, IfOk, filter};
 ghost use Rattle.ty.specs.View.{lent as table_in};
 ghost use Rattle.heap.specs.Lent.{lent};
 ghost use Rattle.heap.specs.Inner.Seen.{seen, state};
 ghost use Rattle.traced.specs.Inner.Lists.{Lists};
 ghost use Rattle.door.specs.HeapCalls.{asked};
-ghost use Rattle.mark.specs.Inner.Scratch.{high};
+ghost use Rattle.mark.specs.Inner.Scratch.{high, CanMark};
 ghost use Rattle.wanted.specs.Search.{noted};
-ghost use Rattle.wanted_door.specs.Inner.Listing.{CanName, CanSearch, named_in};
+ghost use Rattle.wanted_door.specs.Inner.Listing.{CanName, named_in};
 ghost use Rattle.wanted_door.specs.RootsFor.{root_handles, wanted_tests, roots_call, roots_out, RightRoots};
 ghost use Rattle.door.specs.Inner.Entered.{Entered, entry_of};
-ghost use Rattle.wanted.specs.Inner.Picked.{those};
 
 use heap::Heap;
 use heap::view::View;
@@ -60,7 +59,7 @@ fn admit<'a>(
 fn name_roots(tag: u8, narrow: &[u32], wanted: &[u32], work: &[u64], out: &mut [u64]) -> Reply
     requires { CanName narrow.now wanted.now work.now }
     ensures { Lists
-        (named_in tag narrow.now (those (noted 2 (map high work.now)) wanted.now) (length out.old))
+        (named_in tag narrow.now (filter (noted 2 (map high work.now)) wanted.now) (length out.old))
         result out.old out.new }
 {
     let n = list::count_roots(wanted, work);
@@ -81,7 +80,7 @@ fn list_roots(
     marks: &mut [u8],
     work: &mut [u64],
 ) -> Reply
-    requires { CanSearch (seen view) wanted.now marks.old work.old }
+    requires { CanMark (seen view) wanted.now marks.old work.old }
     ensures { Lists
         (root_handles (table_in table.now) pins.now wanted.now (length out.old) (state view.entry))
         result out.old out.new }

@@ -1,9 +1,8 @@
 // The roots that were picked: counted, and their handles written.
-ghost use Rattle.std.specs.Prelude.{◌≡◌, map, ◌≤◌, ◌<◌, length};
+ghost use Rattle.std.specs.Prelude.{◌≡◌, map, ◌≤◌, ◌<◌, length, filter};
 ghost use Rattle.mark.specs.Inner.Scratch.{high};
 ghost use Rattle.word.specs.Put.{put};
 ghost use Rattle.wanted.specs.Search.{noted};
-ghost use Rattle.wanted.specs.Inner.Picked.{those};
 ghost use Rattle.wanted_door.specs.Inner.Picking.{Inside};
 ghost use Rattle.wanted_door.specs.Inner.Listing.{CanName, handles_in};
 
@@ -18,7 +17,7 @@ fn is_root(work: &[u64], w: u32) -> bool
 // How many of the wanted slots are roots.
 pub fn count_roots(wanted: &[u32], work: &[u64]) -> usize
     requires { Inside wanted.now (length work.now) }
-    ensures { result ≡ length (those (noted 2 (map high work.now)) wanted.now) }
+    ensures { result ≡ length (filter (noted 2 (map high work.now)) wanted.now) }
 {
     wanted.iter().filter(|w| is_root(work, **w)).count()
 }
@@ -26,10 +25,10 @@ pub fn count_roots(wanted: &[u32], work: &[u64]) -> usize
 // The handles of the roots go to the lent list from its front on.
 pub fn write_roots(tag: u8, narrow: &[u32], wanted: &[u32], work: &[u64], out: &mut [u64])
     requires can_name { CanName narrow.now wanted.now work.now }
-    requires wanted_in_bounds { length (those (noted 2 (map high work.now)) wanted.now) ≤ length out.old }
+    requires wanted_in_bounds { length (filter (noted 2 (map high work.now)) wanted.now) ≤ length out.old }
     ensures { out.new ≡ put out.old 0
-        (handles_in tag narrow.now (those (noted 2 (map high work.now)) wanted.now))
-        (length (those (noted 2 (map high work.now)) wanted.now)) }
+        (handles_in tag narrow.now (filter (noted 2 (map high work.now)) wanted.now))
+        (length (filter (noted 2 (map high work.now)) wanted.now)) }
 {
     let mut n = 0;
     for w in wanted {

@@ -23,7 +23,8 @@ impl Search<'_> {
     ghost use Rattle.wanted.specs.Search as search;
     ghost use Rattle.wanted.specs.Search.{meeting, upward, downward, firstly, secondly, notes_of, searched};
     ghost use Rattle.mark.specs.Inner.Queues.{IsReady};
-    ghost use Rattle.wanted_door.specs.Inner.Picking.{going_in, GoesTo, notes_if, Inside, Room, Clear};
+    ghost use Rattle.mark.specs.Inner.Scratch.{Clear};
+    ghost use Rattle.wanted_door.specs.Inner.Picking.{going_in, GoesTo, notes_if, Inside, Room};
     ghost use Rattle.wanted_door.specs.Inner.Searching.{graph, held, slots};
 
     // Is there an object in slot `w`?

@@ -1,17 +1,12 @@
 -- Well-formed lent memory of machine words holds a heap whose numbers are within the page's widths. Assumes nothing.
 use Prim.Native.Nat.{ℕ, zero, suc, ◌+◌, ◌-◌, ◌*◌, ◌^◌, ◌≤◌, ◌<◌}
-use mathlib.Core.Bool.{Bool, true, ◌&&◌}
-use mathlib.Core.List.{List, [], ◌∷◌}
-use mathlib.Core.Path.{◌≡◌, refl, subst}
-use lib.ListN.{length, get_or, take, drop, length-take}
-use native.Mathlib.Omega.{arith}
 use Rattle.word.specs.Lists.{tabulate}
 use Rattle.word.proofs.Bools.{and_both}
 use Rattle.word.proofs.ListLaws.{length-tabulate, get_d_tabulate}
 use Rattle.text.specs.Text.{Bytes, All}
-use Rattle.word.specs.Run.{run}
+use Rattle.word.specs.Run.{run, start_of}
 use Rattle.heap.specs.State.{no_slot}
-use Rattle.heap.specs.Packing.{start_of, data_at}
+use Rattle.heap.specs.Packing.{data_at}
 use Rattle.heap.proofs.Sound.{SlotSound, Sound}
 use Rattle.heap.proofs.Testing.{formed-tested}
 use Rattle.heap.specs.Lent.{Lent, slot_in, stored, view, slot_count, pool_size}
@@ -23,6 +18,11 @@ use Rattle.pages.specs.Inner.Columns.{Ready}
 use Rattle.pages.proofs.Ready.{ready}
 use Rattle.pages.proofs.Bound.{page-length}
 use Rattle.widths.specs.Words.{Entries, Words}
+use mathlib.Core.Bool.{Bool, true, ◌&&◌}
+use mathlib.Core.List.{List, [], ◌∷◌}
+use mathlib.Core.Path.{◌≡◌, refl, subst}
+use lib.ListN.{length, get_or, take, drop, length-take}
+use native.Mathlib.Omega.{arith}
 
 taken-below : (width n : ℕ) (xs : List ℕ) → Entries width xs → All (λ x. x < 2 ^ width) (take n xs)
 taken-below width zero xs h = tt

@@ -1,7 +1,7 @@
 // For C: the calls of table_door.
 ghost use Rattle.std.specs.Prelude.{◌≡◌};
 ghost use Rattle.refusal.specs.Told.{answered, here, nothing};
-ghost use Rattle.table_writer.specs.Writing.{table_in, writing, leaving};
+ghost use Rattle.table_writer.specs.Writing.{writing, leaving, lent_table};
 ghost use Rattle.table_reader.specs.Reading.{lists, outcome, reading};
 
 use refusal::Answer;
@@ -17,9 +17,9 @@ pub extern "C" fn yexwalu_write_table(
     out: &mut [u8],
 ) -> Answer
     ensures value { result
-        ≡ answered here nothing (writing (table_in types.now fields.now consts.now bytes.now names.now) out.old) }
+        ≡ answered here nothing (writing (lent_table types.now fields.now consts.now bytes.now names.now) out.old) }
     ensures out_after { out.new
-        ≡ leaving (table_in types.now fields.now consts.now bytes.now names.now) out.old }
+        ≡ leaving (lent_table types.now fields.now consts.now bytes.now names.now) out.old }
 {
     table_door::yexwalu_write_table(types, fields, consts, bytes, names, out)
 }

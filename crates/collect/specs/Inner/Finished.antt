@@ -1,10 +1,7 @@
--- A collection of a known heap: what it asks for, and what follows its marking.
-use Rattle.std.specs.Prelude.{◌≡◌, true, List, ℕ, ◌≤◌, length, replicate, Result, Ok, Err}
-use Rattle.heap.specs.Lent.{Lent, slot_count}
-use Rattle.heap.specs.WellFormed.{well_formed}
+-- A collection of a known heap: what follows its marking.
+use Rattle.std.specs.Prelude.{List, ℕ, Result, Ok, Err}
 use Rattle.heap.specs.State.{State}
 use Rattle.heap.specs.Calls.{Changed, refuse, done}
-use Rattle.heap_calls.specs.Pins.{rising}
 use Rattle.collection.specs.Swept.{swept}
 use Rattle.refusal.specs.declared.Refusal.{Refusal}
 use Rattle.refusal.specs.Told.{number_of}
@@ -13,12 +10,3 @@ use Rattle.refusal.specs.Told.{number_of}
 abbrev pub finished : Result Unit Refusal → (marks pins : List ℕ) → State → Changed Unit
 finished (Ok u) marks pins h = done tt (swept h marks pins)
 finished (Err why) marks pins h = refuse (number_of why) h
-
--- a well formed heap, pins that rise, and scratch that is zero, a mark and a word for each lent slot
-pub record CanCollect (l : Lent) (pins marks work : List ℕ) : Type 0 where
-  pub formed : well_formed l ≡ true
-  pub rises : rising pins ≡ true
-  pub marks_clear : marks ≡ replicate (length marks) 0
-  pub marks_room : slot_count l ≤ length marks
-  pub work_clear : work ≡ replicate (length work) 0
-  pub work_room : slot_count l ≤ length work

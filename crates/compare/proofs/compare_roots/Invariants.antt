@@ -1,7 +1,7 @@
 -- `compare::compare_roots` meets its contract.
 use lib.ListN.{length}
 use Rattle.beside.specs.Inner.Ranks.{met_order}
-use Rattle.compare.proofs.Going.{GoesEven}
+use Rattle.compare.proofs.SideBySide.{GoesEven}
 use Rattle.compare.proofs.compare_roots.Given as goal
 
 abbrev pub invariant-loop-v : goal.invariant-loop-v

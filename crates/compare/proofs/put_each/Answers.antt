@@ -1,4 +1,4 @@
-use Rattle.compare.proofs.Turning.{turning-first, turning-end, turning-slot, turning-next}
+use Rattle.compare.proofs.TurnsPut.{turning-first, turning-end, turning-slot, turning-next}
 use Rattle.compare.proofs.put_each.Goals as goal
 
 pub loop-i-init : goal.loop-i-init

@@ -1,5 +1,5 @@
 -- `compare::put_each` meets its contract.
-use Rattle.compare.proofs.Turning.{Turning}
+use Rattle.compare.proofs.TurnsPut.{Turning}
 use Rattle.compare.proofs.put_each.Given as goal
 
 abbrev pub invariant-loop-i : goal.invariant-loop-i

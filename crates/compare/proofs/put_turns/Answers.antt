@@ -1,5 +1,5 @@
 -- `compare::put_turns` meets its contract.
-use Rattle.compare.proofs.Turning.{raised-turn, turned_on}
+use Rattle.compare.proofs.TurnsPut.{raised-turn, turned_on}
 use Rattle.compare.proofs.put_turns.Goals as goal
 
 pub put_each-requires : goal.put_each-requires

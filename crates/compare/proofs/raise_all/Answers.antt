@@ -1,4 +1,4 @@
-use Rattle.compare.proofs.Turning.{raising-first, raising-end, raising-next}
+use Rattle.compare.proofs.TurnsPut.{raising-first, raising-end, raising-next}
 use Rattle.compare.proofs.raise_all.Goals as goal
 
 pub loop-word-init : goal.loop-word-init

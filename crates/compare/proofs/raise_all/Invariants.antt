@@ -1,5 +1,5 @@
 -- `compare::raise_all` meets its contract.
-use Rattle.compare.proofs.Turning.{Raising}
+use Rattle.compare.proofs.TurnsPut.{Raising}
 use Rattle.compare.proofs.raise_all.Given as goal
 
 abbrev pub invariant-loop-word : goal.invariant-loop-word

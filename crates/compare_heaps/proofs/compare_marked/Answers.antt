@@ -1,6 +1,6 @@
 -- `compare_heaps::compare_marked` meets its contract.
 use mathlib.Core.Path.{sym, ◌∙◌}
-use Rattle.compare_heaps.proofs.Going.{roots-unlike, roots-then}
+use Rattle.compare_heaps.proofs.ObjectsInOrder.{roots-unlike, roots-then}
 use Rattle.compare_heaps.proofs.compare_marked.Goals as goal
 
 pub returns-then-is_ne : goal.returns-then-is_ne

@@ -1,7 +1,7 @@
 use lib.ListN.{length}
 use mathlib.Core.Path.{refl, sym, ap, ◌∙◌}
 use native.Mathlib.Omega.{arith}
-use Rattle.compare_heaps.proofs.Going.{met-first, met-ended, met-over, met-room, met-room', met-inside, met-traced, met-unlike, met_next}
+use Rattle.compare_heaps.proofs.ObjectsInOrder.{met-first, met-ended, met-over, met-room, met-room', met-inside, met-traced, met-unlike, met_next}
 use Rattle.compare_heaps.proofs.compare_met.Goals as goal
 
 pub loop-k-init : goal.loop-k-init

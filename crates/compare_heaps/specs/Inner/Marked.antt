@@ -1,5 +1,5 @@
 -- What the words of a heap hold once it has been marked from its roots and the turns have been put: the objects in the order first met, and the turn of each.
-use Rattle.std.specs.Prelude.{◌≡◌, List, ℕ, ◌%◌, ◌≤◌, ◌<◌, length, get_or, replicate, Option, Some, None}
+use Rattle.std.specs.Prelude.{◌≡◌, List, ℕ, ◌%◌, ◌≤◌, ◌<◌, length, get_or, Option, Some, None}
 use Rattle.ty.specs.Types.{Table}
 use Rattle.alike.specs.Same.{Model, Traceable}
 use Rattle.alike.specs.Same.{Untraceable as Stops}
@@ -7,12 +7,6 @@ use Rattle.alike.specs.Order.{met}
 use Rattle.compare.specs.Inner.Turns.{lows, Turned}
 use Rattle.saves.specs.Inner.Columns.{columns_model}
 use Rattle.mark.specs.declared.objects.Objects.{Objects}
-
--- nothing is marked, and there is room for so many slots
-pub record Clear (slots : ℕ) (marks work : List ℕ) : Type 0 where
-  pub few : slots ≤ 16777216
-  pub clear : marks ≡ replicate slots 0
-  pub room : slots ≤ length work
 
 -- the n objects that the roots reach
 pub record MetIn (M : Model) (roots : List ℕ) (slots : ℕ) (work : List ℕ) (n : ℕ) : Type 0 where

@@ -5,8 +5,8 @@ use Rattle.std.specs.declared.cmp.Ordering.{Ordering}
 use Rattle.std.specs.declared.cmp.Ordering.TheVariants.{Equal}
 use Rattle.std.specs.Ordering.{nat_cmp}
 use Rattle.std.proofs.Math.Option.{none, some}
-use Rattle.word.specs.Run.{run}
-use Rattle.heap.specs.Packing.{start_of, data_at}
+use Rattle.word.specs.Run.{run, start_of}
+use Rattle.heap.specs.Packing.{data_at}
 use Rattle.ty.specs.Types.{Table}
 use Rattle.trace.specs.Places.{Places, shown_places}
 use Rattle.alike.specs.Order.{order}

@@ -3,8 +3,7 @@ use mathlib.Core.Path.{◌≡◌, ap, ◌∙◌}
 use Prim.Native.Nat.{ℕ, ◌*◌, ◌-◌}
 use lib.ListN.{take, drop}
 use native.Mathlib.Omega.{arith}
-use Rattle.word.specs.Run.{run}
-use Rattle.heap.specs.Packing.{start_of}
+use Rattle.word.specs.Run.{run, start_of}
 use Rattle.heap.proofs.start_of.Goals as goal
 
 pub returns : goal.returns

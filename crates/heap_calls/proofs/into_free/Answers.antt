@@ -1,7 +1,7 @@
 -- `heap_calls::into_free` meets its contract: the free list loses its last, and that slot is filled.
 use native.Mathlib.Omega.{arith}
 use mathlib.Core.Path.{refl}
-use Rattle.heap_calls.proofs.Lending.{lengths, into-free-can, into-free-out}
+use Rattle.heap_calls.proofs.LentCalls.{lengths, into-free-can, into-free-out}
 use Rattle.heap_calls.specs.Inner.Kinds.{kind_number}
 use Rattle.heap_calls.proofs.into_free.Goals as goal
 

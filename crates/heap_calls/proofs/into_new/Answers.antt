@@ -1,7 +1,7 @@
 -- `heap_calls::into_new` meets its contract: one slot more, and it is filled.
 use native.Mathlib.Omega.{arith}
 use mathlib.Core.Path.{refl}
-use Rattle.heap_calls.proofs.Lending.{lengths, into-new-can, into-new-out}
+use Rattle.heap_calls.proofs.LentCalls.{lengths, into-new-can, into-new-out}
 use Rattle.heap_calls.specs.Inner.Kinds.{kind_number}
 use Rattle.heap_calls.proofs.into_new.Goals as goal
 

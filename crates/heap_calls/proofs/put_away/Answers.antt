@@ -3,7 +3,7 @@ use native.Mathlib.Omega.{arith}
 use Rattle.heap.specs.Inner.Loans.{lies}
 use mathlib.Core.Path.{refl}
 use Rattle.heap_calls.proofs.Taking.{there}
-use Rattle.heap_calls.proofs.Lending.{put-away-can, put-away-out}
+use Rattle.heap_calls.proofs.LentCalls.{put-away-can, put-away-out}
 use Rattle.heap_calls.proofs.put_away.Goals as goal
 
 pub overflow_add-at : goal.overflow_add-at

@@ -1,24 +1,19 @@
 -- What a recycling does to the lists: of the quarantine's entries the pinned are kept, the worn out retire, and the others become free.
-use Rattle.std.specs.Prelude.{◌≡◌, Bool, not, ◌&&◌, List, ℕ, ◌+◌, ◌-◌, ◌*◌, ◌<◌, length, get_or, set, take, drop, replicate, eqb, if◌then◌else◌}
+use Rattle.std.specs.Prelude.{◌≡◌, Bool, not, ◌&&◌, List, ℕ, ◌+◌, ◌-◌, ◌*◌, ◌<◌, length, get_or, set, take, drop, replicate, if◌then◌else◌, filter}
 use Rattle.word.specs.Run.{run}
 use Rattle.word.specs.Put.{put}
-use Rattle.word.specs.Lists.{filter}
-use Rattle.heap.specs.State.{last_generation}
-use Rattle.heap.specs.Calls.{member}
-
--- slot i is worn out, by the generations of all slots
-abbrev pub worn_in : (generations : List ℕ) → ℕ → Bool
-worn_in gs i = eqb (get_or gs i 0) last_generation
+use Rattle.heap.specs.Inner.Columns.{worn_in}
+use Rattle.word.specs.Lists.{has}
 
 -- what becomes of slot i
 abbrev pub stays : (pins : List ℕ) → ℕ → Bool
-stays pins i = member i pins
+stays pins i = has pins i
 
 abbrev pub becomes_free : (pins generations : List ℕ) → ℕ → Bool
-becomes_free pins gs i = not (member i pins) && not (worn_in gs i)
+becomes_free pins gs i = not (has pins i) && not (worn_in gs i)
 
 abbrev pub retires : (pins generations : List ℕ) → ℕ → Bool
-retires pins gs i = not (member i pins) && worn_in gs i
+retires pins gs i = not (has pins i) && worn_in gs i
 
 -- those of the first j entries of qs that pass a test, written over xs from `at` on, in order; `next` is where one more would go
 pub record Sorted (test : ℕ → Bool) (qs xs : List ℕ) (at j next : ℕ) (xs' : List ℕ) : Type 0 where

@@ -11,7 +11,7 @@ use Rattle.heap.specs.Inner.Columns.{CanPlace, PlacedIn}
 use Rattle.heap.specs.Done.{Leaves}
 use Rattle.heap.specs.Inner.Loans.{lies, SameLoans}
 use Rattle.heap.specs.declared.view_mut.ViewMut.{ViewMut}
-use Rattle.heap_calls.specs.Objects.{size_of, start_of, handed_out}
+use Rattle.heap_calls.specs.Objects.{handed_out, object_start, object_size}
 
 -- ---- alloc
 
@@ -48,7 +48,7 @@ take_room room h i = if ltb room (length (slot_at h i).bytes) then refuse 7 h el
 -- the object's bytes are in the output, the reply is its length and start
 pub record TakeSlotDoes (l l' : Lent) (reply : Reply) (i : ℕ) (out out' : List ℕ) : Type 0 where
   pub leaves : Leaves l l' (take_room (length out) (view l) i).heap
-  pub says : told reply ≡ answered size_of start_of (take_room (length out) (view l) i).answer
+  pub says : told reply ≡ answered object_size object_start (take_room (length out) (view l) i).answer
   pub wrote : out' ≡ handed_out out (take_room (length out) (view l) i).answer
 
 -- the same, in the memory that is lent

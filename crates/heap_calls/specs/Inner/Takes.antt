@@ -11,7 +11,7 @@ use Rattle.heap_calls.specs.Objects.{size_of, start_of, handed_out}
 -- the object's bytes are in the output, the reply is its length and start
 pub record TakeDoes (l l' : Lent) (reply : Reply) (x : ℕ) (out out' : List ℕ) : Type 0 where
   pub leaves : Leaves l l' (take_into (length out) (view l) x).heap
-  pub says : told reply ≡ answered size_of start_of (take_into (length out) (view l) x).answer
+  pub says : told reply ≡ answered object_size object_start (take_into (length out) (view l) x).answer
   pub wrote : out' ≡ handed_out out (take_into (length out) (view l) x).answer
 
 -- as TakeDoes, in the memory that is lent

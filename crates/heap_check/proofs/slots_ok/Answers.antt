@@ -2,7 +2,7 @@ use mathlib.Core.Path.{◌≡◌, sym, ap, subst}
 use Prim.Native.Nat.{ℕ, ◌-◌}
 use native.Mathlib.Omega.{arith}
 use lib.ListN.{get_or}
-use Rattle.heap.specs.Packing.{start_of}
+use Rattle.word.specs.Run.{start_of}
 use Rattle.heap_check.specs.Inner.Checks.{SlotOk}
 use Rattle.heap.proofs.Packing.{start-next}
 use Rattle.heap_check.proofs.CheckLoops.{says-no, says_le, false-true, below-one-more, start_first}

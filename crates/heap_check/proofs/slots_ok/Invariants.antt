@@ -2,7 +2,7 @@
 use mathlib.Core.Path.{◌≡◌}
 use Prim.Native.Nat.{ℕ, ◌-◌, ◌≤◌, ◌<◌}
 use lib.ListN.{get_or}
-use Rattle.heap.specs.Packing.{start_of}
+use Rattle.word.specs.Run.{start_of}
 use Rattle.heap_check.specs.Inner.Checks.{SlotOk}
 use Rattle.heap_check.proofs.slots_ok.Given as goal
 

@@ -1,7 +1,7 @@
 -- What each part of the check of a heap looks at, number by number.
 use Rattle.std.specs.Prelude.{◌≡◌, Bool, true, List, ℕ, ◌+◌, ◌-◌, ◌*◌, ◌/◌, ◌%◌, ◌≤◌, ◌<◌, length, get_or, take, ltb}
 use Rattle.memory.specs.Inner.Zero.{zero_from}
-use Rattle.heap.specs.Packing.{start_of}
+use Rattle.word.specs.Run.{start_of}
 use Rattle.heap.specs.State.{bit, times}
 use Rattle.heap.specs.Lent.{Lent, lent}
 use Rattle.heap.specs.WellFormed.{sound_seals}
@@ -74,10 +74,6 @@ Covered n ks marks = (i : ℕ) → i < n → 1 ≤ bit (ltb 0 (get_or ks i 0)) +
 -- each index below n is live or once in one of three lists, and no other
 abbrev pub Partition : (n : ℕ) → (kinds free quarantine retired : List ℕ) → Type 0
 Partition n ks fs qs rs = (i : ℕ) → bit (ltb 0 (get_or ks i 0)) + (times i fs + (times i qs + times i rs)) ≡ bit (ltb i n)
-
--- all entries are below n
-abbrev pub Inside : ℕ → List ℕ → Type 0
-Inside n xs = (k : ℕ) → k < length xs → get_or xs k 0 < n
 
 -- the slots in a list have generations from `low` to `high`
 abbrev pub Aged : List ℕ → (low high : ℕ) → List ℕ → Type 0

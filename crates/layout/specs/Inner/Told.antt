@@ -8,10 +8,10 @@ use Rattle.refusal.specs.Told.{number_of}
 use Rattle.layout.specs.Offsets.{Values, values}
 
 -- a layout with how many offsets were written, or why there is none
-abbrev pub Answer : Type 0
-Answer = Outcome (Layout × ℕ) Refusal
+abbrev pub WithOffsets : Type 0
+WithOffsets = Outcome (Layout × ℕ) Refusal
 
 -- each answer's number and values
-abbrev pub told : Answer → Result Values
+abbrev pub told : WithOffsets → Result Values
 told (Ok (l, k)) = ok (values l k)
 told (Err e) = refused (number_of e)

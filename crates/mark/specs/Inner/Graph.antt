@@ -1,9 +1,9 @@
 -- What the runs of a heap show a collection, and when they can be read. In a well formed heap it is what the heap shows (proofs/Formed).
 use Rattle.std.specs.Prelude.{ℕ, ◌*◌, ◌≤◌, ◌<◌, List, length, get_or, ltb}
 use Rattle.std.proofs.Math.Option.{Option}
-use Rattle.word.specs.Run.{run}
+use Rattle.word.specs.Run.{run, start_of}
 use Rattle.handle.specs.Inner.Columns.{live_in}
-use Rattle.heap.specs.Packing.{start_of, data_at}
+use Rattle.heap.specs.Packing.{data_at}
 use Rattle.ty.specs.Types.{Table}
 use Rattle.trace.specs.Places.{handles_of}
 use Rattle.trace.specs.Inner.Emit.{resolve_in, Runs}

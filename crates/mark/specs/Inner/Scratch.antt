@@ -1,9 +1,12 @@
 -- The scratch of a marking as the state that crate `reach` defines: what the inner functions ask and ensure.
 use Rattle.trace.specs.Inner.Emit.{Answer}
-use Rattle.std.specs.Prelude.{Some, None, ℕ, ◌≤◌, ◌/◌, ◌%◌, ◌^◌, ◌≡◌, Bool, List, ◌++◌, map, length, take}
+use Rattle.std.specs.Prelude.{Some, true, None, ℕ, ◌≤◌, ◌/◌, ◌%◌, ◌^◌, ◌≡◌, Bool, List, ◌++◌, map, length, take, replicate}
 use Rattle.std.proofs.Math.Option.{Option, none, some}
 use Rattle.reach.specs.Marking.{State, follow_all, pin_all}
 use Rattle.reach.specs.Inner.Good.{Good}
+use Rattle.word.specs.Lists.{rising}
+use Rattle.heap.specs.Lent.{Lent, slot_count}
+use Rattle.heap.specs.WellFormed.{well_formed}
 
 -- the lower half of a word, where the queue stands, and the upper half, where a call notes something of a slot
 abbrev pub low : ℕ → ℕ
@@ -23,6 +26,21 @@ pub record Scratch (slots : ℕ) (marks work : List ℕ) (n : ℕ) : Type 0 wher
   pub words : slots ≤ length work
   pub room : n ≤ length work
   pub good : Good slots (state_of marks work n)
+
+-- room for a marking of so many slots, and nothing marked yet
+pub record Clear (slots : ℕ) (marks work : List ℕ) : Type 0 where
+  pub few : slots ≤ 16777216
+  pub clear : marks ≡ replicate slots 0
+  pub room : slots ≤ length work
+
+-- a well formed heap, slots that rise, and scratch that is zero, a mark and a word for each lent slot
+pub record CanMark (l : Lent) (slots marks work : List ℕ) : Type 0 where
+  pub formed : well_formed l ≡ true
+  pub rises : rising slots ≡ true
+  pub marks_clear : marks ≡ replicate (length marks) 0
+  pub marks_room : slot_count l ≤ length marks
+  pub work_clear : work ≡ replicate (length work) 0
+  pub work_room : slot_count l ≤ length work
 
 -- the scratch holds the state s
 pub record Holds (slots : ℕ) (marks work : List ℕ) (n : ℕ) (s : State) : Type 0 where

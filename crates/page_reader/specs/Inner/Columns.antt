@@ -1,8 +1,9 @@
 -- What the second pass leaves in the lent runs.
-use Rattle.std.specs.Prelude.{ℕ, ◌+◌, ◌*◌, ◌/◌, ◌≤◌, ◌<◌, Bool, true, not, List, map, ◌≡◌, eqb, length, get_or, set, if◌then◌else◌}
-use Rattle.word.specs.Lists.{all, filter}
+use Rattle.std.specs.Prelude.{ℕ, ◌+◌, ◌*◌, ◌/◌, ◌≤◌, Bool, true, not, List, map, ◌≡◌, length, set, if◌then◌else◌, filter}
+use Rattle.word.specs.Lists.{all}
 use Rattle.word.specs.Run.{run}
-use Rattle.heap.specs.State.{State, data_size, Slot, slot_at, data_of, last_generation, worn}
+use Rattle.heap.specs.State.{State, data_size, Slot, slot_at, data_of, worn}
+use Rattle.heap.specs.Inner.Columns.{worn_in, Below}
 use Rattle.heap.specs.Packing.{ends}
 use Rattle.heap.specs.Lent.{Lent, columns, lent}
 use Rattle.heap.specs.declared.Heap.{Heap}
@@ -18,10 +19,6 @@ with_numbers l slots =
     columns l.header l.count (filled (λ x. x.generation) slots l.generation) (filled (λ x. x.kind) slots l.kind) (filled (λ x. x.type) slots l.type)
     (filled (λ x. x.start) slots l.start) (put_text l.end 0 (ends 0 (data_of slots))) (filled (λ x. x.writes) slots l.writes) l.pool l.free l.quarantine
     l.sealed l.retired l.over
-
--- slot i is worn out, by the generations of all slots
-abbrev pub worn_in : (generations : List ℕ) → ℕ → Bool
-worn_in gs i = eqb (get_or gs i 0) last_generation
 
 -- a list of free slots parted: the worn-out ones retire
 abbrev pub stay_free : (generations : List ℕ) → List ℕ → List ℕ
@@ -41,10 +38,6 @@ abbrev pub with_lists : Lent → (quarantine retired sealed : List ℕ) → Lent
 with_lists l q r z =
     columns l.header l.count l.generation l.kind l.type l.start l.end l.writes l.pool l.free (put_text l.quarantine 0 q)
     (put_text l.sealed 0 z) (put_text l.retired 0 r) l.over
-
--- all entries are below n
-abbrev pub Below : (n : ℕ) → List ℕ → Type 0
-Below n xs = (k : ℕ) → k < length xs → get_or xs k 0 < n
 
 -- one entry of the free list put where it belongs, in the runs of S
 pub record PutIn (worn : Bool) (v S f r : ℕ) (narrow : List ℕ) (f' r' : ℕ) (narrow' : List ℕ) : Type 0 where

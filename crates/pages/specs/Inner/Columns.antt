@@ -3,7 +3,7 @@ use Rattle.std.specs.Prelude.{ℕ, ◌≤◌, ◌<◌, List, [], ◌∷◌, ◌+
 use Rattle.word.specs.Lists.{tabulate}
 use Rattle.text.specs.Text.{decimal}
 use Rattle.heap.specs.State.{Slot}
-use Rattle.heap.specs.Packing.{start_of}
+use Rattle.word.specs.Run.{start_of}
 use Rattle.heap.specs.Lent.{Lent, slot_in}
 
 -- the first n slots

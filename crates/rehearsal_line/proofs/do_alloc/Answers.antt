@@ -5,8 +5,8 @@ use mathlib.Core.Path.{sym, ap, ◌∙◌}
 use Prim.Native.Nat.{ℕ, ◌/◌}
 use Rattle.ty.specs.View.{lent as tabled}
 use Rattle.heap.specs.Lent.{lent}
-use Rattle.rehearsal_line.proofs.Leading.{led-alloc, led-more}
-use Rattle.rehearsal_line.proofs.Lined.{same-turns, alloc-ends, alloc_goes}
+use Rattle.rehearsal_line.proofs.StatesBetweenLines.{led-alloc, led-more}
+use Rattle.rehearsal_line.proofs.LineParts.{same-turns, alloc-ends, alloc_goes}
 use Rattle.rehearsal_steps.proofs.Placed.{still-open}
 use Rattle.rehearsal_line.proofs.do_alloc.Goals as goal
 

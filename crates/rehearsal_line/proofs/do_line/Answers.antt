@@ -5,8 +5,8 @@ use mathlib.Core.Path.{refl, ap}
 use Rattle.heap.specs.declared.Heap.{Heap}
 use Rattle.rehearsal_lines.specs.Inner.Found.{step_in}
 use Rattle.rehearsal_store.proofs.Stored.{names-there}
-use Rattle.rehearsal_line.proofs.Leading.{led-whole}
-use Rattle.rehearsal_line.proofs.Lined.{store_line, drop-line, drop-header, as_line, alloc-data}
+use Rattle.rehearsal_line.proofs.StatesBetweenLines.{led-whole}
+use Rattle.rehearsal_line.proofs.LineParts.{store_line, drop-line, drop-header, as_line, alloc-data}
 use Rattle.rehearsal_line.proofs.do_line.Goals as goal
 
 pub do_alloc-requires : goal.do_alloc-requires

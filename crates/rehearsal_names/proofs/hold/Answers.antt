@@ -1,6 +1,6 @@
 -- `rehearsal_names::hold` meets its contract.
 use native.Mathlib.Omega.{arith}
-use Rattle.rehearsal_names.proofs.Squeezing.{hold-room, hold-below, hold-put, hold-done}
+use Rattle.rehearsal_names.proofs.EntriesMoved.{hold-room, hold-below, hold-put, hold-done}
 use Rattle.rehearsal_names.proofs.hold.Goals as goal
 
 pub make_room-m-requires : goal.make_room-m-requires

@@ -1,5 +1,5 @@
 -- `rehearsal_names::make_room` meets its contract.
-use Rattle.rehearsal_names.proofs.Squeezing.{roomy-there, roomy-squeezed}
+use Rattle.rehearsal_names.proofs.EntriesMoved.{roomy-there, roomy-squeezed}
 use Rattle.rehearsal_names.proofs.make_room.Goals as goal
 
 pub returns-then-n-s : goal.returns-then-n-s

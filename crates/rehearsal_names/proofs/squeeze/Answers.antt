@@ -1,4 +1,4 @@
-use Rattle.rehearsal_names.proofs.Squeezing.{squeeze-begin, squeeze-can, squeeze-next, squeeze-end}
+use Rattle.rehearsal_names.proofs.EntriesMoved.{squeeze-begin, squeeze-can, squeeze-next, squeeze-end}
 use Rattle.rehearsal_names.proofs.squeeze.Goals as goal
 
 pub loop-i-init : goal.loop-i-init

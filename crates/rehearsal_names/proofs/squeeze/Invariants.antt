@@ -1,5 +1,5 @@
 -- `rehearsal_names::squeeze` meets its contract.
-use Rattle.rehearsal_names.proofs.Squeezing.{Squeezing}
+use Rattle.rehearsal_names.proofs.EntriesMoved.{Squeezing}
 use Rattle.rehearsal_names.proofs.squeeze.Given as goal
 
 abbrev pub invariant-loop-i : goal.invariant-loop-i

@@ -1,5 +1,5 @@
 -- `rehearsal_names::squeeze_one` meets its contract.
-use Rattle.rehearsal_names.proofs.Squeezing.{move-room, moved_none, moved-one}
+use Rattle.rehearsal_names.proofs.EntriesMoved.{move-room, moved_none, moved-one}
 use Rattle.rehearsal_names.proofs.squeeze_one.Goals as goal
 
 pub returns-then-h-eq0 : goal.returns-then-h-eq0

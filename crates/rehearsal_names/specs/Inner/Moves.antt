@@ -1,7 +1,7 @@
 -- How entries are found and moved: what only inner functions' contracts cite.
 use Rattle.std.specs.Prelude.{ℕ, zero, suc, ◌+◌, ◌≤◌, ◌<◌, true, List, [], ◌∷◌, ◌++◌, map, ◌≡◌, eqb, length, get_or, set, if◌then◌else◌, Option, Some, None}
 use Rattle.word.specs.Run.{run}
-use Rattle.heap_calls.specs.Pins.{rising_from}
+use Rattle.word.specs.Lists.{rising_from}
 use Rattle.rehearsal.specs.Runs.{Held as Name, handles}
 use Rattle.rehearsal_names.specs.Inner.Names.{named}
 

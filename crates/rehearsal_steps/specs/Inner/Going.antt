@@ -9,7 +9,7 @@ use Rattle.heap.specs.State.{State, slot_at}
 use Rattle.heap.specs.Lent.{Lent, view, slot_count, pool_size}
 use Rattle.heap.specs.WellFormed.{well_formed}
 use Rattle.heap.specs.declared.Heap.{Heap}
-use Rattle.heap_calls.specs.Pins.{rising_from}
+use Rattle.word.specs.Lists.{rising_from}
 use Rattle.collection.specs.Swept.{live_size}
 use Rattle.rehearsal.specs.Lines.{Line}
 use Rattle.rehearsal.specs.Runs.{Run, after, starting}

@@ -6,9 +6,10 @@ use Rattle.word.specs.Lists.{tabulate}
 use Rattle.rows.specs.Inner.Row.{bit_in, listed}
 use Rattle.flow.specs.Function.{Function, first_at}
 use Rattle.flow.specs.Dataflow.{gen, kill, into, Sound, live_in, track}
-use Rattle.roots.specs.View.{start_of, block_at, view}
+use Rattle.roots.specs.View.{block_at, view}
 use Rattle.roots.specs.declared.Tracked.{Tracked}
 use Rattle.roots.specs.declared.Tracked.TheVariants.{References, Handles, All}
+use Rattle.word.specs.Run.{start_of}
 
 -- classes 2 (Ptr) and 4 (Handle); 4 alone; or all
 abbrev pub wanted : Tracked → ℕ → Bool

@@ -1,7 +1,7 @@
 -- What the inner functions ask and ensure of the columns.
 use Rattle.std.specs.Prelude.{◌≡◌, Bool, true, not, ◌&&◌, List, [], ◌∷◌, ℕ, zero, suc, ◌+◌, ◌*◌, ◌-◌, ◌<◌, ◌≤◌, length, get_or, set, drop, eqb, ltb, if◌then◌else◌}
 use Rattle.word.specs.Put.{put}
-use Rattle.heap.specs.Packing.{pad, flat, ends, start_of}
+use Rattle.heap.specs.Packing.{pad, ends}
 use Rattle.heap.specs.Inner.Columns.{datas, Packed}
 use Rattle.heap.specs.State.{State, last_generation}
 use Rattle.heap.specs.Calls.{step}
@@ -9,6 +9,8 @@ use Rattle.heap.specs.Lent.{Lent, columns, column, header_of, slot_count}
 use Rattle.heap.specs.Inner.Header.{set_free, set_retired, set_changed}
 use Rattle.heap.specs.WellFormed.{well_formed}
 use Rattle.heap.specs.declared.Heap.{Heap}
+use Rattle.std.specs.List.{concat}
+use Rattle.word.specs.Run.{start_of}
 
 -- ---- the pool packed again
 
@@ -24,7 +26,7 @@ pub record CanCompact (n : ℕ) (ks end pool : List ℕ) : Type 0 where
 
 pub record Compacted (n : ℕ) (ks end pool end' pool' : List ℕ) : Type 0 where
   pub places : end' ≡ pad (length end) (ends 0 (kept ks (datas n end pool)))
-  pub bytes : pool' ≡ pad (length pool) (flat (kept ks (datas n end pool)))
+  pub bytes : pool' ≡ pad (length pool) (concat (kept ks (datas n end pool)))
 
 -- how much is kept of the data from `from` to `e`
 abbrev pub kept_size : (kind from e : ℕ) → ℕ

@@ -1,7 +1,7 @@
 use native.Mathlib.Omega.{arith}
 use borrow.Author.Rules.{rules}
 use Rattle.tables.proofs.Rowing.{digits-most}
-use Rattle.table_writer.proofs.Wholes.{counts-length}
+use Rattle.table_writer.proofs.WholeText.{counts-length}
 use borrow.Author.Rules.{rules}
 use Rattle.table_writer.proofs.counts_len.Goals as goal
 

@@ -1,4 +1,4 @@
-use Rattle.table_writer.proofs.Wholes.{names-lost-1, names-lost-2, names-lost-3, names-over, names-there}
+use Rattle.table_writer.proofs.WholeText.{names-lost-1, names-lost-2, names-lost-3, names-over, names-there}
 use Rattle.table_writer.proofs.find_names.Goals as goal
 
 pub returns-in_err-fields_at : goal.returns-in_err-fields_at

@@ -3,7 +3,7 @@ use mathlib.Core.List.{List, [], ◌∷◌, ◌++◌, append_assoc}
 use mathlib.Core.Path.{ap, ◌∙◌}
 use Rattle.text.specs.Text.{decimal, ascii}
 use Rattle.tables.specs.Table.{field, count_names, counts_line}
-use Rattle.table_writer.proofs.Wholes.{counts-parts}
+use Rattle.table_writer.proofs.WholeText.{counts-parts}
 use Rattle.text.proofs.Wrote.{writes-begin, writes-room, writes-more, writes-end}
 use Rattle.table_writer.proofs.put_counts.Goals as goal
 

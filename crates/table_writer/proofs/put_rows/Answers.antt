@@ -1,15 +1,15 @@
 use Prim.Native.Nat.{ℕ, ◌+◌, ◌-◌}
-use mathlib.Core.List.{List, flat_map}
 use Rattle.text.proofs.Wrote.{wrote-length}
-use mathlib.Core.Path.{refl, ap, ◌∙◌}
 use Rattle.tables.specs.Table.{field}
 use Rattle.pages.proofs.Numbers.{numbers-length, numbers-part}
-use native.Mathlib.Omega.{arith}
-use lib.ListN.{length, drop}
 use Rattle.tables.specs.Reading.{read_name}
 use Rattle.tables.proofs.Endings.{lost}
 use Rattle.tables.proofs.Naming.{name-found, name-long}
-use Rattle.table_writer.proofs.RowsPut.{rows-put-begin, rows-put-some, rows-put-in, rows-put-fits, rows-put-next, rows-put-end}
+use Rattle.table_writer.proofs.LinesPut.{rows-put-begin, rows-put-some, rows-put-in, rows-put-fits, rows-put-next, rows-put-end}
+use mathlib.Core.List.{List, flat_map}
+use mathlib.Core.Path.{refl, ap, ◌∙◌}
+use native.Mathlib.Omega.{arith}
+use lib.ListN.{length, drop}
 use Rattle.table_writer.proofs.put_rows.Goals as goal
 
 pub loop-i-init : goal.loop-i-init

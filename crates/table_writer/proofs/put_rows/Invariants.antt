@@ -1,5 +1,5 @@
 use mathlib.Core.Path.{◌≡◌}
-use Rattle.table_writer.proofs.RowsPut.{RowsPut}
+use Rattle.table_writer.proofs.LinesPut.{RowsPut}
 use Rattle.table_writer.proofs.put_rows.Given as goal
 
 abbrev pub invariant-loop-i : goal.invariant-loop-i

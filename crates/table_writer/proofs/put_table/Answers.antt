@@ -8,7 +8,7 @@ use Rattle.tables.specs.Table.{count_names, counts_line, type_names, field_names
 use Rattle.tables.specs.Lists.{rows_of}
 use Rattle.tables.specs.Inner.Answer.{names_at}
 use Rattle.table_writer.specs.Inner.Parts.{named}
-use Rattle.table_writer.proofs.Wholes.{table-parts}
+use Rattle.table_writer.proofs.WholeText.{table-parts}
 use Rattle.text.proofs.Wrote.{writes-begin, writes-room, writes-more, writes-all}
 use Rattle.table_writer.proofs.put_table.Goals as goal
 

@@ -1,5 +1,5 @@
 use mathlib.Core.Path.{refl, sym, ◌∙◌}
-use Rattle.table_writer.proofs.Wholes.{lengths-small, written-17, written-10, written-7, ready, written}
+use Rattle.table_writer.proofs.WholeText.{lengths-small, written-17, written-10, written-7, ready, written}
 use Rattle.table_writer.proofs.write.Goals as goal
 
 pub returns-in_default : goal.returns-in_default

@@ -23,7 +23,7 @@ pub record Keeps (G : Graph) (handle : ℕ → ℕ) (S : Starts) (W is : List �
   pub leaves : Leaves G S (map handle is) W
 
 -- THE ANSWER: no root list that leaves W is shorter, whatever handles it has, and among those as short it is the least
-pub record Answer (G : Graph) (handle : ℕ → ℕ) (S : Starts) (W is : List ℕ) : Type 0 where
+pub record FewestRoots (G : Graph) (handle : ℕ → ℕ) (S : Starts) (W is : List ℕ) : Type 0 where
   pub keeps : Keeps G handle S W is
   pub fewest : (R : List ℕ) → Leaves G S R W → length is ≤ length R
   pub least : (js : List ℕ) → Keeps G handle S W js → length js ≡ length is → NotAfter is js

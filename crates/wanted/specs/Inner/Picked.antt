@@ -5,8 +5,3 @@ use Rattle.std.specs.Prelude.{Bool, List, [], ◌∷◌, ℕ, zero, suc, get_or,
 unfoldable pub down_from : (test : ℕ → Bool) → (W : List ℕ) → (k : ℕ) → List ℕ
 down_from test W zero = []
 down_from test W (suc k) = if test (get_or W k 0) then get_or W k 0 ∷ down_from test W k else down_from test W k
-
--- those that pass the test
-unfoldable pub those : (test : ℕ → Bool) → List ℕ → List ℕ
-those test [] = []
-those test (w ∷ ws) = if test w then w ∷ those test ws else those test ws

@@ -5,10 +5,10 @@ use lib.ListN.{take}
 use Rattle.ty.specs.View.{lent}
 use Rattle.mark.specs.Inner.Graph.{graph_in}
 use Rattle.mark.specs.Inner.Objects.{Laid}
-use Rattle.mark.specs.Inner.Scratch.{high}
+use Rattle.mark.specs.Inner.Scratch.{high, Clear}
 use Rattle.mark.specs.Inner.Told.{starts_of}
 use Rattle.wanted.specs.Search.{searched}
-use Rattle.wanted_door.specs.Inner.Picking.{notes_if, Inside, Clear}
+use Rattle.wanted_door.specs.Inner.Picking.{notes_if, Inside}
 use Rattle.wanted_door.proofs.Naming.{search-part, search-long, search-clear, can-name, none_found, roots-found}
 use Rattle.wanted_door.proofs.list_roots.Goals as goal
 

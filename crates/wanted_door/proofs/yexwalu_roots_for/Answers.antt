@@ -6,15 +6,15 @@ use Rattle.ty.specs.View.{table_of}
 use Rattle.heap.specs.Lent.{Lent, lent, view}
 use Rattle.heap.specs.Inner.Seen.{seen}
 use Rattle.traced.specs.Inner.Lists.{Lists}
-use Rattle.wanted_door.specs.Inner.Listing.{CanSearch}
 use Rattle.wanted_door.specs.RootsFor.{root_handles}
 use Rattle.wanted_door.proofs.Entries.{can-search, roots-refused, roots-done}
 use Rattle.door.specs.Inner.Entered.{entry_of}
+use Rattle.mark.specs.Inner.Scratch.{CanMark}
 use Rattle.wanted_door.proofs.yexwalu_roots_for.Goals as goal
 
 pub list_roots-reply-requires : goal.list_roots-reply-requires
 list_roots-reply-requires c =
-    subst (λ (l : Lent). CanSearch l c.args.wanted.now c.admit.new.marks c.admit.new.work) (sym (IfOk-at_ok (λ v. seen v ≡ lent c.args.heap c.args.narrow.now c.args.wide.now c.args.pool.now) c.in-Ok.is c.admit.ensures.shows))
+    subst (λ (l : Lent). CanMark l c.args.wanted.now c.admit.new.marks c.admit.new.work) (sym (IfOk-at_ok (λ v. seen v ≡ lent c.args.heap c.args.narrow.now c.args.wide.now c.args.pool.now) c.in-Ok.is c.admit.ensures.shows))
     (can-search (record { types = c.args.types.now; fields = c.args.fields.now; consts = c.args.consts.now; bytes = c.args.bytes.now; pins = c.args.pins.now; wanted = c.args.wanted.now }) (lent c.args.heap c.args.narrow.now c.args.wide.now c.args.pool.now) c.admit.ensures.entered (ap entry_of c.in-Ok.is))
 
 pub returns-in-Err : goal.returns-in-Err

@@ -1,10 +1,7 @@
 -- What the functions that search and list the roots ask and write.
-use Rattle.std.specs.Prelude.{◌≡◌, true, List, map, ℕ, ◌≤◌, length, get_or, replicate, leb, if◌then◌else◌}
+use Rattle.std.specs.Prelude.{List, map, ℕ, length, get_or, leb, if◌then◌else◌}
 use Rattle.word.specs.Result.{Result, ok, refused}
 use Rattle.handle.specs.Handle.{packed}
-use Rattle.heap.specs.Lent.{Lent, slot_count}
-use Rattle.heap.specs.WellFormed.{well_formed}
-use Rattle.heap_calls.specs.Pins.{rising}
 use Rattle.wanted_door.specs.Inner.Picking.{Inside}
 
 -- the handles of these slots: their generations stand first in the runs of numbers
@@ -20,12 +17,3 @@ pub record CanName (narrow W work : List ℕ) : Type 0 where
   pub noted : Inside W (length work)
   pub aged : Inside W (length narrow)
   pub few : Inside W 16777216
-
--- a checked heap, slots that rise, and scratch that is zero
-pub record CanSearch (l : Lent) (W marks work : List ℕ) : Type 0 where
-  pub formed : well_formed l ≡ true
-  pub rises : rising W ≡ true
-  pub marks_clear : marks ≡ replicate (length marks) 0
-  pub marks_room : slot_count l ≤ length marks
-  pub work_clear : work ≡ replicate (length work) 0
-  pub work_room : slot_count l ≤ length work

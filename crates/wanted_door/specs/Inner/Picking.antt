@@ -1,6 +1,6 @@
 -- What the inner functions of the search for roots say of marks and work: the marking as crate `mark` has it, the notes in the upper halves of the words.
 use Rattle.trace.specs.Inner.Emit.{Answer}
-use Rattle.std.specs.Prelude.{Option as Maybe, Some, None, ◌≡◌, Bool, true, false, List, map, ℕ, ◌≤◌, ◌<◌, length, get_or, replicate}
+use Rattle.std.specs.Prelude.{Option as Maybe, Some, None, ◌≡◌, Bool, true, false, List, map, ℕ, ◌≤◌, ◌<◌, length, get_or}
 use Rattle.std.proofs.Math.Option.{Option, none, some}
 use Rattle.mark.specs.Inner.Scratch.{high, state_of, Scratch}
 use Rattle.mark.specs.declared.queue.Queue.{Queue}
@@ -38,8 +38,3 @@ pub record Room (slots : ℕ) (marks work : List ℕ) : Type 0 where
   pub few : slots ≤ 16777216
   pub size : length marks ≡ slots
   pub words : slots ≤ length work
-
--- and nothing marked yet
-pub record Clear (slots : ℕ) (marks work : List ℕ) : Type 0 where
-  pub room : Room slots marks work
-  pub clear : marks ≡ replicate slots 0

@@ -2,7 +2,7 @@
 use native.Mathlib.Omega.{arith}
 use Rattle.heap.specs.Lent.{lent}
 use Rattle.heap_calls.proofs.Recycling.{lists-can}
-use Rattle.heap_calls.proofs.Going.{entries-are, kept-few, recycled-leaves}
+use Rattle.heap_calls.proofs.RecycledLists.{entries-are, kept-few, recycled-leaves}
 use Rattle.heap_calls.proofs.recycle.recycle.Goals as goal
 
 pub recycle_lists-c-requires : goal.recycle_lists-c-requires

@@ -1,6 +1,6 @@
 use mathlib.Core.Path.{refl}
 use native.Mathlib.Omega.{arith}
-use Rattle.heap_calls.proofs.Going.{in-first, in_entry, in-turn, in-fill, in-same, in-last}
+use Rattle.heap_calls.proofs.RecycledLists.{in-first, in_entry, in-turn, in-fill, in-same, in-last}
 use Rattle.heap_calls.proofs.recycle.recycle_lists.Goals as goal
 
 pub loop-j-init : goal.loop-j-init

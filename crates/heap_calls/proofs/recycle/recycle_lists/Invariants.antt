@@ -1,5 +1,5 @@
 -- `heap_calls::recycle::recycle_lists` meets its contract: the invariant says that the entries passed are kept, free or retired, in order.
-use Rattle.heap_calls.proofs.Going.{GoingIn}
+use Rattle.heap_calls.proofs.RecycledLists.{GoingIn}
 use Rattle.heap_calls.proofs.recycle.recycle_lists.Given as goal
 
 abbrev pub invariant-loop-j : goal.invariant-loop-j

@@ -1,7 +1,5 @@
 -- `mark::joined::mark_frame` meets its contract.
 use Prim.Native.Nat.{ℕ}
-use mathlib.Core.Path.{sym, ap}
-use mathlib.Core.List.{List, ◌++◌}
 use Rattle.std.specs.Prelude.{Some, None}
 use Rattle.ty.specs.View.{lent}
 use Rattle.frame.specs.Frame.{entries_of}
@@ -10,8 +8,10 @@ use Rattle.frame.proofs.Words.{frame-words}
 use Rattle.addresses.specs.Listed.{slots_of}
 use Rattle.mark.specs.Inner.Safepoints.{live_values, handles_in, pinned_in}
 use Rattle.mark.proofs.States.{then-same}
-use Rattle.mark.proofs.Draining.{reached, stuck}
 use Rattle.mark.proofs.FrameMarks.{frame-scratch, frame-stuck, frame-marked}
+use Rattle.mark.proofs.QueueLoop.{reached, stuck}
+use mathlib.Core.Path.{sym, ap}
+use mathlib.Core.List.{List, ◌++◌}
 use Rattle.mark.proofs.joined.mark_frame.Goals as goal
 
 pub returns-in_err-n : goal.returns-in_err-n

@@ -3,7 +3,7 @@ use mathlib.Core.Path.{refl, ◌≡◌}
 use mathlib.Core.List.{List}
 use Prim.Native.Nat.{ℕ, ◌-◌, ◌*◌, ◌≤◌, ◌<◌}
 use lib.ListN.{length, get_or}
-use Rattle.roots.specs.View.{start_of}
+use Rattle.word.specs.Run.{start_of}
 use Rattle.roots.specs.Inner.Columns.{Lists}
 use Rattle.roots.proofs.Plans.{part-slice}
 use Rattle.roots.proofs.Turns.{kills-on, kills-none, kills-end, list-fits}

@@ -1,6 +1,6 @@
 -- `roots::row::list_start` meets its contract.
 use mathlib.Core.Path.{refl, sym, ◌∙◌, ap}
-use Rattle.roots.specs.View.{start_of}
+use Rattle.word.specs.Run.{start_of}
 use Rattle.roots.proofs.Turns.{start-pred}
 use Rattle.roots.proofs.row.list_start.Goals as goal
 

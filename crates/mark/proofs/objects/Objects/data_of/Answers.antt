@@ -1,6 +1,6 @@
 -- `mark::objects::Objects::data_of` meets its contract.
 use native.Mathlib.Omega.{arith}
-use Rattle.mark.proofs.Bridge.{slot-rises, slot-ends, slot-data}
+use Rattle.mark.proofs.TracedIntoQueue.{slot-rises, slot-ends, slot-data}
 use Rattle.mark.proofs.objects.Objects.data_of.Goals as goal
 
 pub slice_bounds-result-count : goal.slice_bounds-result-count

@@ -1,5 +1,5 @@
 use native.Mathlib.Omega.{arith}
-use Rattle.mark.proofs.Draining.{draining-start, queue-slots, queue-below, drains-end, drains-stop, drains-next}
+use Rattle.mark.proofs.QueueLoop.{draining-start, queue-slots, queue-below, drains-end, drains-stop, drains-next}
 use Rattle.mark.proofs.queue.Queue.drain.Goals as goal
 
 pub loop-next-init : goal.loop-next-init

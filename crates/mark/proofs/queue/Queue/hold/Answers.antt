@@ -2,7 +2,7 @@
 use mathlib.Core.Path.{refl}
 use Rattle.mark.proofs.States.{same-again}
 use Rattle.mark.proofs.Holding.{hold-beyond, hold-there}
-use Rattle.mark.proofs.Bridge.{queue-met, pin-noted}
+use Rattle.mark.proofs.TracedIntoQueue.{queue-met, pin-noted}
 use Rattle.mark.proofs.queue.Queue.hold.Goals as goal
 
 pub returns-then-most-i : goal.returns-then-most-i

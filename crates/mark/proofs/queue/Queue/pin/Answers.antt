@@ -1,7 +1,7 @@
 -- `Queue::pin` meets its contract.
 use mathlib.Core.Path.{refl}
 use Rattle.mark.proofs.States.{same-again, pin-beyond, pin-dead, pin-live}
-use Rattle.mark.proofs.Bridge.{queue-met, pin-noted}
+use Rattle.mark.proofs.TracedIntoQueue.{queue-met, pin-noted}
 use Rattle.mark.proofs.queue.Queue.pin.Goals as goal
 
 pub returns-then-slots-j : goal.returns-then-slots-j

@@ -1,7 +1,7 @@
 use Rattle.reach.specs.Marking.{pin_all}
 use Rattle.mark.specs.Inner.Objects.{lives}
 use Rattle.mark.proofs.States.{pushing-start}
-use Rattle.mark.proofs.Bridge.{pins-next, pins-end}
+use Rattle.mark.proofs.TracedIntoQueue.{pins-next, pins-end}
 use Rattle.mark.proofs.queue.Queue.pin_all.Goals as goal
 
 pub loop-i-init : goal.loop-i-init

@@ -2,7 +2,7 @@
 use Rattle.reach.specs.Marking.{pin_all}
 use Rattle.mark.specs.Inner.Objects.{lives}
 use Rattle.mark.specs.Inner.Queues.{state}
-use Rattle.mark.proofs.Bridge.{Pins}
+use Rattle.mark.proofs.TracedIntoQueue.{Pins}
 use Rattle.mark.proofs.queue.Queue.pin_all.Given as goal
 
 abbrev pub invariant-loop-i : goal.invariant-loop-i

@@ -2,7 +2,7 @@ use mathlib.Core.Path.{refl}
 use Rattle.reach.specs.Marking.{follow_all}
 use Rattle.mark.specs.Inner.Objects.{leads}
 use Rattle.mark.proofs.States.{pushing-start}
-use Rattle.mark.proofs.Bridge.{pushes-next, pushes-end}
+use Rattle.mark.proofs.TracedIntoQueue.{pushes-next, pushes-end}
 use Rattle.mark.proofs.queue.Queue.push_all.Goals as goal
 
 pub loop-h-init : goal.loop-h-init

@@ -2,7 +2,7 @@
 use Rattle.reach.specs.Marking.{follow_all}
 use Rattle.mark.specs.Inner.Objects.{leads}
 use Rattle.mark.specs.Inner.Queues.{state}
-use Rattle.mark.proofs.Bridge.{Pushes}
+use Rattle.mark.proofs.TracedIntoQueue.{Pushes}
 use Rattle.mark.proofs.queue.Queue.push_all.Given as goal
 
 abbrev pub invariant-loop-h : goal.invariant-loop-h

@@ -2,8 +2,8 @@
 use mathlib.Core.Path.{refl}
 use Rattle.trace.specs.Inner.Emit.{resolve_in}
 use Rattle.mark.proofs.States.{same-again}
-use Rattle.mark.proofs.Inside.{resolves-in}
-use Rattle.mark.proofs.Bridge.{emit-noted}
+use Rattle.mark.proofs.ResolvedInside.{resolves-in}
+use Rattle.mark.proofs.TracedIntoQueue.{emit-noted}
 use Rattle.mark.proofs.RowPushes.{no_register, other-class, handle-value, address-value}
 use Rattle.mark.proofs.queue.Queue.push_at.Goals as goal
 

@@ -1,5 +1,5 @@
 -- `Queue::seed` meets its contract.
-use Rattle.mark.proofs.Bridge.{seed-done}
+use Rattle.mark.proofs.TracedIntoQueue.{seed-done}
 use Rattle.mark.proofs.queue.Queue.seed.Goals as goal
 
 pub returns : goal.returns

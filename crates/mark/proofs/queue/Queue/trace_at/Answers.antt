@@ -1,7 +1,7 @@
 -- `Queue::trace_at` meets its contract.
 use mathlib.Core.Path.{refl}
-use Rattle.mark.proofs.Bridge.{shown-traces, shown-noted}
-use Rattle.mark.proofs.Draining.{trace-reaches, trace-stops}
+use Rattle.mark.proofs.TracedIntoQueue.{shown-traces, shown-noted}
+use Rattle.mark.proofs.QueueLoop.{trace-reaches, trace-stops}
 use Rattle.mark.proofs.queue.Queue.trace_at.Goals as goal
 
 pub returns-in_err-self : goal.returns-in_err-self

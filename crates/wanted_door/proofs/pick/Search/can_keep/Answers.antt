@@ -5,7 +5,8 @@ use Rattle.mark.specs.Inner.Queues.{counted}
 use Rattle.word.proofs.Bools.{true-false}
 use Rattle.wanted_door.specs.Inner.Searching.{graph, slots}
 use Rattle.wanted_door.proofs.Meeting.{live_below}
-use Rattle.wanted_door.proofs.Searches.{clear-scratch, begun-scratch, keep-stuck, keep-none, keep-tested, keep-inside}
+use Rattle.mark.proofs.States.{clear-scratch}
+use Rattle.wanted_door.proofs.Searches.{begun-scratch, keep-stuck, keep-none, keep-tested, keep-inside}
 use Rattle.wanted_door.proofs.pick.Search.can_keep.Goals as goal
 
 pub mark_from-r-requires : goal.mark_from-r-requires

@@ -4,7 +4,8 @@ use Rattle.mark.specs.Inner.Queues.{counted}
 use mathlib.Core.Bool.{Bool}
 use Rattle.wanted_door.specs.Inner.Picking.{notes_if}
 use Rattle.wanted_door.specs.Inner.Searching.{graph, slots}
-use Rattle.wanted_door.proofs.Searches.{counted-some, clear-scratch, cleared, begun-scratch, choose-stuck, choose-ended}
+use Rattle.mark.proofs.States.{clear-scratch}
+use Rattle.wanted_door.proofs.Searches.{counted-some, cleared, begun-scratch, choose-stuck, choose-ended}
 use Rattle.wanted_door.proofs.pick.Search.choose_roots.Goals as goal
 
 pub mark_from-r-requires : goal.mark_from-r-requires

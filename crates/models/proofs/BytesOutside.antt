@@ -16,7 +16,7 @@ use Rattle.alike.proofs.Turns.{order-append}
 use Rattle.places.specs.PlacesRise.{Apart}
 use Rattle.models.specs.Objects.{in_place, outside}
 use Rattle.models.specs.Inner.Along.{rest_from}
-use Rattle.models.proofs.Front.{before}
+use Rattle.models.proofs.DescriptorFirst.{before}
 
 -- ---- places one after the other
 

@@ -15,11 +15,10 @@ use Rattle.ty.specs.Types.{Table}
 use Rattle.trace.specs.Places.{Places, shown_places}
 use Rattle.reach.specs.Reach.{◌∈◌}
 use Rattle.reach.specs.Marking.{State, drained}
-use Rattle.reach.proofs.Grown.{∈-get_or}
+use Rattle.reach.proofs.Visiting.{∈-get_or}
 use Rattle.mark.specs.Inner.Graph.{leads_to, graph_in}
-use Rattle.mark.specs.Inner.Scratch.{low, state_of, Scratch, Traces, seeded_from}
-use Rattle.mark.proofs.States.{scratch-start}
-use Rattle.mark.proofs.Draining.{queue-length, queue-slots, queue-at, queue-below}
+use Rattle.mark.specs.Inner.Scratch.{low, state_of, Scratch, Traces, seeded_from, Clear}
+use Rattle.mark.proofs.QueueLoop.{queue-length, queue-slots, queue-at, queue-below}
 use Rattle.alike.specs.Same.{Object, Model, Traceable}
 use Rattle.alike.specs.Same.{Untraceable as Stops}
 use Rattle.alike.specs.Order.{met}
@@ -27,14 +26,11 @@ use Rattle.alike.proofs.Lists.{Once}
 use Rattle.alike.proofs.FirstMet.{met-once, met-reached}
 use Rattle.models.specs.Objects.{moved, slot_places, held_at, object_of}
 use Rattle.compare.specs.Inner.Turns.{lows, CanQueue, Turned}
-use Rattle.compare.proofs.Turning.{lows-length, lows-at}
+use Rattle.compare.proofs.TurnsPut.{lows-length, lows-at}
 use Rattle.saves.specs.Inner.Columns.{columns_model}
 use Rattle.saves.proofs.FromMarks.{columns-slots, marks-traced, marks-untraced}
 use Rattle.compare_objects.specs.Inner.Sides.{places_in, Queued}
-use Rattle.compare_heaps.specs.Inner.Marked.{Clear, MetIn, Meets}
-
-pub clear-scratch : (slots : ℕ) (marks work : List ℕ) → Clear slots marks work → Scratch slots marks work 0
-clear-scratch slots marks work c = scratch-start slots marks work c.few c.clear c.room
+use Rattle.compare_heaps.specs.Inner.Marked.{MetIn, Meets}
 
 -- what stops the marking stops the meeting
 pub stopped : {r : Option' ℕ} (M : Model) (roots work : List ℕ) (slots : ℕ) → r ≡ None → Stops M roots → Meets r M roots slots work

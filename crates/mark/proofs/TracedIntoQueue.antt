@@ -13,11 +13,11 @@ use native.Mathlib.Decide.{ℕ_discrete, dec_lt}
 use native.Mathlib.Omega.{arith}
 use Rattle.std.specs.Prelude.{Some, None, if◌then◌else◌}
 use Rattle.word.specs.Result.{Result, ok, refused}
-use Rattle.word.specs.Run.{run}
+use Rattle.word.specs.Run.{run, start_of}
 use Rattle.word.proofs.RunLaws.{run-get, first-get}
 use Rattle.word.proofs.ListLaws.{drop-cons-one}
 use Rattle.handle.specs.Inner.Columns.{live_in}
-use Rattle.heap.specs.Packing.{start_of, data_at}
+use Rattle.heap.specs.Packing.{data_at}
 use Rattle.ty.specs.Types.{Table}
 use Rattle.trace.specs.Places.{handles_of}
 use Rattle.trace.specs.Inner.Emit.{Answer, Raw, raw_of, into, resolve_in, over, queued, queued_if, emitted_by, emitted, emit_all, emitting, told}
@@ -30,7 +30,7 @@ use Rattle.mark.specs.Inner.Graph.{leads_to, shown_in, Fit}
 use Rattle.mark.specs.declared.queue.Queue.{Queue}
 use Rattle.mark.specs.Inner.Queues.{state, SameLoans, Becomes}
 use Rattle.mark.proofs.States.{high-over, unmarked-room, meet-marked, meet-new, then-same, Pushing, pushing-next, pushing-end}
-use Rattle.mark.proofs.Inside.{resolves-in}
+use Rattle.mark.proofs.ResolvedInside.{resolves-in}
 
 abbrev pub HoldsRaw : ℕ → Raw → State → Type 0
 HoldsRaw n r s = Holds n r.marks r.words r.count s
@@ -202,7 +202,7 @@ module _ (slots S : ℕ) (narrow wide pool : List ℕ) (fit : Fit slots S narrow
     shown-noted = trace-noted slots s.few (resolve_in tag slots S narrow) (resolves-in tag slots S narrow) r _ marks words c marks' words' e
 
 module _ (slots S : ℕ) (narrow wide pool : List ℕ) (fit : Fit slots S narrow wide pool) (i : ℕ) (h : i < slots) where
-  end-at : get_or (run S S wide) i 0 ≡ get_or wide (S + i) 0
+  pub end-at : get_or (run S S wide) i 0 ≡ get_or wide (S + i) 0
   end-at = run-get S S wide i (omega (arith, fit.runs.used))
 
   module _ (a : ℕ) (ea : a ≡ start_of (run S S wide) i) where

@@ -18,7 +18,7 @@ use Rattle.alike.proofs.Turns.{then-assoc, then-after, places-cons}
 use Rattle.places.specs.StrideZero.{ShortConstants}
 use Rattle.models.specs.Objects.{outside, slot_places, held, object_of}
 use Rattle.models.specs.Inner.Along.{beside_order, rest_from, in_one_go}
-use Rattle.models.proofs.Front.{beside, object-is}
+use Rattle.models.proofs.DescriptorFirst.{beside, object-is}
 use Rattle.models.proofs.SlotPlaces.{rest-in-one-go}
 
 pub then_equal : (o : Ordering) → o and_then Equal ≡ o

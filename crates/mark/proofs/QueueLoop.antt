@@ -15,7 +15,7 @@ use Rattle.std.specs.Prelude.{Option as Maybe, Some, None}
 use Rattle.word.specs.Result.{ok, refused}
 use Rattle.word.proofs.ListLaws.{take-zeros}
 use Rattle.reach.specs.Reach.{Graph}
-use Rattle.reach.specs.Marking.{State, follow_all, drained, marking, or_done, or_stuck}
+use Rattle.reach.specs.Marking.{State, follow_all, drained, marking, or_done, and_then}
 use Rattle.heap.specs.Packing.{pad}
 use Rattle.heap.proofs.Packing.{drop-replicate}
 use Rattle.ty.specs.Types.{Table}
@@ -25,7 +25,7 @@ use Rattle.mark.specs.Inner.Told.{marks_in, starts_of, Ready}
 use Rattle.mark.specs.declared.queue.Queue.{Queue}
 use Rattle.mark.specs.Inner.Queues.{state, IsReady, SameLoans, counted, Reaches}
 use Rattle.mark.proofs.States.{scratch-start, same-again, then-same}
-use Rattle.reach.proofs.Grown.{∈-get_or, good-room}
+use Rattle.reach.proofs.Visiting.{∈-get_or, good-room}
 
 -- ---- the function's clauses
 
@@ -174,7 +174,7 @@ pub drained-live : (G : Graph) (L : ℕ → Bool) (f : ℕ) (s : State) (k : ℕ
 unfolding drained
 drained-live G L zero s k = refl
 drained-live G L (suc f) s k =
-    ap (λ (d : List ℕ → Option State). or_done (ltb k (length s.queue)) (or_stuck (G.handles (get_or s.queue k 0)) d) (some s))
+    ap (λ (d : List ℕ → Option State). or_done (ltb k (length s.queue)) (and_then (G.handles (get_or s.queue k 0)) d) (some s))
     (fun_ext (λ (hs : List ℕ). drained-live G L f (follow_all G.resolve s hs) (suc k)))
 
 -- ---- the whole

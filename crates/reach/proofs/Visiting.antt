@@ -1,19 +1,21 @@
 -- Visiting keeps the state good, and only adds to the queue. Assumes nothing.
 use Prim.Native.Nat.{ℕ, zero, suc, ◌+◌, ◌≤◌, ◌<◌}
+use Rattle.reach.specs.Reach.{◌∈◌}
+use Rattle.reach.specs.Marking.{State, nothing, met, visit}
+use Rattle.reach.specs.Inner.Good.{sum, Good}
+use Rattle.word.specs.Lists.{has}
+use Rattle.word.proofs.Bools.{or_cases, or_left, or_right}
 use mathlib.Core.Path.{◌≡◌, refl, sym, ap, ◌∙◌, subst}
 use mathlib.Core.Logic.{◌⊎◌, inl, inr, ⊎_elim}
-use mathlib.Core.Bool.{Bool, true, false}
+use mathlib.Core.Bool.{Bool, true, false, false≢true}
 use mathlib.Core.List.{List, [], ◌∷◌, ◌++◌, append_assoc, append-nil}
 use lib.ListN.{length, get_or, set, replicate, length-set, length-append, length-replicate, get_or-replicate, get_or-append}
 use lib.Seq.{get_or-set_same, get_or-set_other}
 use lib.Dec.{eqb}
-use borrow.Author.Tests.{eqb-true, eqb-false}
+use borrow.Author.Tests.{eqb-true, eqb-false, eq-eqb}
 use native.Mathlib.Nat.{le_of_suc-le-suc, not-suc-le-zero, zero-add}
 use native.Mathlib.Decide.{ℕ_discrete}
 use native.Mathlib.Omega.{arith}
-use Rattle.reach.specs.Reach.{◌∈◌}
-use Rattle.reach.specs.Marking.{State, nothing, met, visit}
-use Rattle.reach.specs.Inner.Good.{sum, Good}
 
 -- ---- membership
 
@@ -45,6 +47,19 @@ pub ∈-index : (x : ℕ) (s : List ℕ) → x ∈ s → (k : ℕ) × (k < lengt
 ∈-index x [] m = absurd m
 ∈-index x (y ∷ ys) (inl e) = (zero, omega arith, sym e)
 ∈-index x (y ∷ ys) (inr m) = let r = ∈-index x ys m in (suc r.0, omega (arith, r.1), r.2)
+
+-- the test of it
+pub has-in : (s : List ℕ) (x : ℕ) → has s x ≡ true → x ∈ s
+has-in [] x e = absurd (false≢true e)
+has-in (y ∷ ys) x e = ⊎_elim (λ a. inl (sym (eqb-true y x a))) (λ b. inr (has-in ys x b)) (or_cases (eqb y x) (has ys x) e)
+
+pub in-has : (s : List ℕ) (x : ℕ) → x ∈ s → has s x ≡ true
+in-has [] x m = absurd m
+in-has (y ∷ ys) x (inl e) = or_left (eqb y x) (has ys x) (eq-eqb y x (sym e))
+in-has (y ∷ ys) x (inr m) = or_right (eqb y x) (has ys x) (in-has ys x m)
+
+pub has-not : (s : List ℕ) (x : ℕ) → has s x ≡ false → x ∈ s → ⊥
+has-not s x e m = false≢true (sym e ∙ in-has s x m)
 
 -- ---- the number of marks
 

@@ -23,7 +23,7 @@ use Rattle.mark.specs.Inner.Objects.{Laid, laid_in}
 use Rattle.mark.specs.Inner.Scratch.{state_of, Scratch, Traces, seeded_from}
 use Rattle.mark.specs.Inner.Told.{marks_in, heap_marks, Ready}
 use Rattle.mark.specs.Inner.Joining.{joined_from, joined_marks}
-use Rattle.mark.proofs.Draining.{ready-scratch, whole-stuck, whole-marked}
+use Rattle.mark.proofs.QueueLoop.{ready-scratch, whole-stuck, whole-marked}
 use Rattle.mark.proofs.Formed.{formed-few, formed-marks, formed-held}
 
 module _ (h : Heap) (narrow wide pool : List ℕ) (wf : well_formed (lent h narrow wide pool) ≡ true) (marks work : List ℕ) (ready : Ready h.slots marks work) (T : Table)

@@ -1,17 +1,6 @@
 -- The whole of a table's text, part by part as the code writes it. Assumes nothing.
 use Prim.Native.Nat.{ℕ, suc, ◌+◌, ◌*◌, ◌/◌, ◌%◌, ◌≤◌, ◌<◌}
-use mathlib.Core.List.{List, [], ◌∷◌, ◌++◌, append_assoc, flat_map}
-use mathlib.Core.Bool.{true, false}
-use mathlib.Core.Option as maybe
-use mathlib.Core.Option.{none, some}
-use Rattle.std.specs.Prelude.{Option, Some, None}
-use mathlib.Core.Path.{◌≡◌, refl, sym, ap, ◌∙◌, subst}
-use lib.Dec.{leb, eqb}
-use lib.ListN.{length, take, drop, length-append, length-drop, drop_of_length-le, take-append-drop}
-use lib.Seq.{drop-cons}
-use native.Mathlib.Omega.{arith}
-use native.Mathlib.Nat.{mul-suc, zero-add}
-use borrow.Author.Tests.{leb-true, eqb-true}
+use Rattle.std.specs.Prelude.{Option, Some, None, Ok, Err}
 use Rattle.text.specs.Text.{decimal, hex, line, newline, comma}
 use Rattle.text.specs.Reading.{give, ◌>>=◌}
 use Rattle.text.specs.Format.{read_all, pair, times}
@@ -25,15 +14,25 @@ use Rattle.word.proofs.Bools.{and_both}
 use Rattle.ty.specs.Check.{all_of, table_good}
 use Rattle.refusal.specs.Told.{told}
 use Rattle.refusal.specs.declared.Refusal.TheVariants.{ShortList, TypeTable, Page}
-use Rattle.std.specs.Prelude.{Ok, Err}
 use Rattle.tables.specs.Lists.{Names, rows_of, with_names}
 use Rattle.tables.specs.Inner.Answer.{GotAll, names_at}
 use Rattle.tables.proofs.Laws.{name-right}
-use Rattle.tables.proofs.Rowing.{flat_append}
 use Rattle.table_writer.specs.Inner.Parts.{NamesFound, NamesGot, named, rest_length, Ready, TableWritten}
-use Rattle.table_writer.specs.Writing.{table_in, writing, leaving}
+use Rattle.table_writer.specs.Writing.{writing, leaving, lent_table}
 use Rattle.table_writer.specs.declared.NamesRead.{NamesRead}
-use Rattle.table_writer.proofs.RowsPut.{names-are}
+use Rattle.pages.proofs.Writing.{flat_append}
+use Rattle.table_writer.proofs.LinesPut.{names-are}
+use mathlib.Core.List.{List, [], ◌∷◌, ◌++◌, append_assoc, flat_map}
+use mathlib.Core.Bool.{true, false}
+use mathlib.Core.Option as maybe
+use mathlib.Core.Option.{none, some}
+use mathlib.Core.Path.{◌≡◌, refl, sym, ap, ◌∙◌, subst}
+use lib.Dec.{leb, eqb}
+use lib.ListN.{length, take, drop, length-append, length-drop, drop_of_length-le, take-append-drop}
+use lib.Seq.{drop-cons}
+use native.Mathlib.Omega.{arith}
+use native.Mathlib.Nat.{mul-suc, zero-add}
+use borrow.Author.Tests.{leb-true, eqb-true}
 
 -- THE NAMES
 
@@ -276,22 +275,22 @@ module _ (w f c b names : List ℕ) where
       go none q = refl
       go (some r) q = rw q
 
-  pub written-17 : {x : Option NamesRead} (out : List ℕ) → NamesGot names (length w / 4) (length f / 2) (length c / 3) x → x ≡ None → TableWritten (table_in w f c b names) out out (Err Page)
-  unfolding table_in writing leaving
-  written-17 out g e = rw (named_none (g.lost e), table_in) (record { answer = refl; out = refl })
+  pub written-17 : {x : Option NamesRead} (out : List ℕ) → NamesGot names (length w / 4) (length f / 2) (length c / 3) x → x ≡ None → TableWritten (lent_table w f c b names) out out (Err Page)
+  unfolding lent_table writing leaving
+  written-17 out g e = rw (named_none (g.lost e), lent_table) (record { answer = refl; out = refl })
 
   module _ (x y : ℕ) (n : NamesFound names (length w / 4) (length f / 2) (length c / 3) x y) where
     named_some : named_in w f c b names ≡ some (named w f c b names x y)
     unfolding named_in names_format pair times name_format
     named_some = rw (n.types, n.fields, n.constants)
 
-    pub written-10 : (out : List ℕ) → table_good w f c b ≡ false → TableWritten (table_in w f c b names) out out (Err TypeTable)
-    unfolding table_in writing leaving
-    written-10 out e = rw (named_some, table_in, e) (record { answer = refl; out = refl })
+    pub written-10 : (out : List ℕ) → table_good w f c b ≡ false → TableWritten (lent_table w f c b names) out out (Err TypeTable)
+    unfolding lent_table writing leaving
+    written-10 out e = rw (named_some, lent_table, e) (record { answer = refl; out = refl })
 
-    taken : table_good w f c b ≡ true → table_in w f c b names ≡ ok (named w f c b names x y)
-    unfolding table_in
-    taken e = rw (named_some, table_in, e)
+    taken : table_good w f c b ≡ true → lent_table w f c b names ≡ ok (named w f c b names x y)
+    unfolding lent_table
+    taken e = rw (named_some, lent_table, e)
 
     module _ (good : table_good w f c b ≡ true) where
       pub text-rest : (rest : ℕ) → rest ≡ rest_length w f c → rest + length names + 2 * length b ≡ length (table_text (named w f c b names x y))
@@ -300,7 +299,7 @@ module _ (w f c b names : List ℕ) where
           ∙ text-length w f c b names x y n (types-whole w f c b good) (fields-whole w f c b good) (constants-whole w f c b good)
 
       pub written-7 : (out : List ℕ) (rest : ℕ) → rest ≡ rest_length w f c → leb (rest + length names + 2 * length b) (length out) ≡ false →
-          TableWritten (table_in w f c b names) out out (Err ShortList)
+          TableWritten (lent_table w f c b names) out out (Err ShortList)
       unfolding writing leaving
       written-7 out rest e q =
           let s : leb (length (table_text (named w f c b names x y))) (length out) ≡ false = ap (λ (m : ℕ). leb m (length out)) (sym (text-rest rest e)) ∙ q in
@@ -316,7 +315,7 @@ module _ (w f c b names : List ℕ) where
       }
 
       pub written : (out out' : List ℕ) (k rest : ℕ) → rest ≡ rest_length w f c → leb (rest + length names + 2 * length b) (length out) ≡ true →
-          Puts out out' 0 k (table_text (named w f c b names x y)) → TableWritten (table_in w f c b names) out out' (Ok (k, 0))
+          Puts out out' 0 k (table_text (named w f c b names x y)) → TableWritten (lent_table w f c b names) out out' (Ok (k, 0))
       unfolding writing leaving
       written out out' k rest e q p =
           let s : leb (length (table_text (named w f c b names x y))) (length out) ≡ true = ap (λ (m : ℕ). leb m (length out)) (sym (text-rest rest e)) ∙ q in

@@ -1,16 +1,5 @@
 -- Kind, type, start, length and the bytes outside say where the places are: a descriptor stands before the first place. Assumes nothing.
 use Prim.Native.Nat.{ℕ, zero, suc, ◌+◌, ◌≤◌, ◌<◌}
-use mathlib.Core.Path.{◌≡◌, refl, sym, ap, ◌∙◌, subst}
-use mathlib.Core.Logic.{inl, inr}
-use mathlib.Core.Bool.{Bool, true, false}
-use mathlib.Core.Option.{Option, none, some}
-use mathlib.Core.List.{List, [], ◌∷◌, ◌++◌, map}
-use lib.ListN.{length, take, drop, length-map, length-drop, take-append-drop}
-use lib.Seq.{take-append-le, drop-drop, take-add, drop_at, length-take-le}
-use lib.Dec.{leb, eqb}
-use borrow.Author.Tests.{leb-true, leb-false, lt-leb}
-use native.Mathlib.Nat.{le_of_suc-le-suc, not-suc-le-zero}
-use native.Mathlib.Omega.{arith}
 use Rattle.ty.specs.Words.{Word}
 use Rattle.std.specs.Prelude.{if◌then◌else◌, Some, None}
 use Rattle.std.specs.declared.cmp.Ordering.{Ordering}
@@ -27,10 +16,21 @@ use Rattle.alike.specs.Order.{order, places_code}
 use Rattle.alike.specs.Inner.ByTurns.{◌and_then◌, object_order}
 use Rattle.alike.proofs.Orders.{order-equal}
 use Rattle.alike.proofs.Turns.{then-after, order-append}
-use Rattle.places.proofs.Least.{Least, places-least}
 use Rattle.places.proofs.PlacesRise.{places_if, kind-places}
 use Rattle.models.specs.Objects.{in_place, outside, moved, slot_places, held, held_at, object_of, model_of}
 use Rattle.models.specs.Inner.Along.{beside_order}
+use Rattle.places.proofs.PlacesFrom.{Least, places-least}
+use mathlib.Core.Path.{◌≡◌, refl, sym, ap, ◌∙◌, subst}
+use mathlib.Core.Logic.{inl, inr}
+use mathlib.Core.Bool.{Bool, true, false}
+use mathlib.Core.Option.{Option, none, some}
+use mathlib.Core.List.{List, [], ◌∷◌, ◌++◌, map}
+use lib.ListN.{length, take, drop, length-map, length-drop, take-append-drop}
+use lib.Seq.{take-append-le, drop-drop, take-add, drop_at, length-take-le}
+use lib.Dec.{leb, eqb}
+use borrow.Author.Tests.{leb-true, leb-false, lt-leb}
+use native.Mathlib.Nat.{le_of_suc-le-suc, not-suc-le-zero}
+use native.Mathlib.Omega.{arith}
 
 -- ---- the descriptor
 

@@ -9,14 +9,14 @@ use lib.ListN.{length}
 use Rattle.ty.specs.Types.{Table}
 use Rattle.heap.specs.State.{State}
 use Rattle.heap.specs.Lent.{Lent, view, slot_count, pool_size}
-use Rattle.heap_calls.specs.Pins.{rising_from}
+use Rattle.word.specs.Lists.{rising_from}
 use Rattle.script.specs.Inner.Found.{DataThere}
 use Rattle.rehearsal.specs.Lines.{Line as Step, alloc, store, drop}
 use Rattle.std.specs.Prelude.{if◌then◌else◌, is_some}
 use Rattle.refusal.specs.declared.Refusal.TheVariants.{NothingThere}
 use Rattle.rehearsal_steps.proofs.Placed.{not-ended}
 use Rattle.heap.specs.Calls.{gc_due}
-use Rattle.rehearsal.specs.Runs.{Run, held_at, handles, swept, collecting, allocating, storing, dropping, does, unless}
+use Rattle.rehearsal.specs.Runs.{Run, held_at, handles, swept, collecting, allocating, storing, dropping, does}
 use Rattle.rehearsal.specs.OnHeap.{heaped, collects_heap}
 use Rattle.rehearsal.proofs.Holding.{unless-ended}
 use Rattle.rehearsal_lines.specs.Inner.Found.{DataIn}

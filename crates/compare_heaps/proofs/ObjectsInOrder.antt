@@ -13,8 +13,8 @@ use Rattle.std.specs.Cmp.Lexicographic.{slice_cmp}
 use Rattle.ty.specs.Types.{Table}
 use Rattle.alike.specs.Inner.ByTurns.{◌and_then◌}
 use Rattle.compare.specs.Inner.Turns.{lows}
-use Rattle.compare.proofs.Turning.{lows-length, lows-at}
-use Rattle.compare.proofs.Going.{Goes, goes_first, goes-next, goes-unlike, goes_over, goes-ended, first-decides, second-decides}
+use Rattle.compare.proofs.TurnsPut.{lows-length, lows-at}
+use Rattle.compare.proofs.SideBySide.{Goes, goes_first, goes-next, goes-unlike, goes_over, goes-ended, first-decides, second-decides}
 use Rattle.mark.specs.declared.objects.Objects.{Objects}
 use Rattle.compare_objects.specs.Inner.Lent.{shown_by, sides_order, QueuedIn}
 

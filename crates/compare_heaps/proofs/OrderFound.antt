@@ -12,10 +12,10 @@ use Rattle.std.specs.declared.cmp.Ordering.TheVariants.{Less, Equal, Greater}
 use Rattle.std.specs.Ordering.{nat_cmp}
 use Rattle.std.specs.Cmp.Lexicographic.{slice_cmp}
 use Rattle.std.proofs.lemmas.Map.Lookups.{exact_unsigned}
-use Rattle.word.specs.Run.{run}
+use Rattle.word.specs.Run.{run, start_of}
 use Rattle.word.specs.Result.{Result, ok, refused}
 use Rattle.word.proofs.ListLaws.{take-zeros}
-use Rattle.heap.specs.Packing.{start_of, data_at}
+use Rattle.heap.specs.Packing.{data_at}
 use Rattle.heap.specs.declared.Heap.{Heap}
 use Rattle.heap.specs.Lent.{lent, view}
 use Rattle.heap.specs.Inner.Seen.{seen, state}
@@ -24,13 +24,13 @@ use Rattle.ty.specs.Types.{Table}
 use Rattle.places.specs.StrideZero.{ShortConstants}
 use Rattle.trace.specs.Places.{Places}
 use Rattle.reach.specs.Reach.{◌∈◌}
-use Rattle.reach.proofs.Grown.{∈-index}
+use Rattle.reach.proofs.Visiting.{∈-index}
 use Rattle.collection.specs.Collected.{found}
 use Rattle.mark.specs.Inner.Graph.{Fit}
 use Rattle.mark.specs.Inner.Objects.{Laid, laid, laid_in}
 use Rattle.mark.specs.declared.objects.Objects.{Objects}
 use Rattle.mark.proofs.Formed.{formed-fit, formed-few}
-use Rattle.mark.proofs.Inside.{resolves-in}
+use Rattle.mark.proofs.ResolvedInside.{resolves-in}
 use Rattle.alike.specs.Same.{Model}
 use Rattle.alike.specs.Order.{order, met, resolves, worth, places_code}
 use Rattle.alike.specs.Inner.ByTurns.{◌and_then◌, place_order, slot_order, objects_order, by_turns}
@@ -41,15 +41,16 @@ use Rattle.models.specs.Inner.Along.{visible_in_one_go}
 use Rattle.models.proofs.Heaps.{data-short}
 use Rattle.models.proofs.Visible.{slots-visible}
 use Rattle.compare.specs.Inner.Turns.{lows, Turned}
-use Rattle.compare.proofs.Turning.{lows-length, lows-at}
+use Rattle.compare.proofs.TurnsPut.{lows-length, lows-at}
 use Rattle.saves.specs.Saves.{ordering}
 use Rattle.saves.specs.Inner.Columns.{columns_model}
 use Rattle.saves.proofs.TwoLent.{lent-first, lent-second, lent-turns}
 use Rattle.compare_heaps.specs.Inner.Compared.{compared_by, CanMark}
 use Rattle.compare_objects.specs.Inner.Sides.{head_of, data_beside, places_in, slots_beside, Queued}
 use Rattle.compare_objects.specs.Inner.Lent.{sides_order, QueuedIn}
-use Rattle.compare_heaps.specs.Inner.Marked.{Clear, MetIn, Meets, side_model}
-use Rattle.compare_heaps.proofs.Meeting.{reached-places, met-queued}
+use Rattle.compare_heaps.specs.Inner.Marked.{MetIn, Meets, side_model}
+use Rattle.compare_heaps.proofs.FirstMet.{reached-places, met-queued}
+use Rattle.mark.specs.Inner.Scratch.{Clear}
 
 -- ---- lists
 

@@ -13,10 +13,11 @@ use native.Mathlib.Decide.{ℕ_discrete}
 use native.Mathlib.Omega.{arith}
 use Rattle.std.specs.Prelude.{if◌then◌else◌}
 use Rattle.reach.specs.Reach.{◌∈◌}
-use Rattle.reach.proofs.Grown.{∈-get_or}
-use Rattle.alike.specs.Order.{has, turn}
+use Rattle.reach.proofs.Visiting.{∈-get_or}
+use Rattle.alike.specs.Order.{turn}
+use Rattle.word.specs.Lists.{has}
 use Rattle.alike.specs.Inner.Packed.{Packed, put_turn}
-use Rattle.alike.proofs.Lists.{has-true, has-false}
+use Rattle.reach.proofs.Visiting.{has-in, has-not}
 use Rattle.alike.proofs.Packing.{packed-next, packed-turn}
 use Rattle.compare.specs.Inner.Turns.{lows, CanQueue, Raised, CanTurn, Turned}
 
@@ -130,10 +131,10 @@ module _ (work₀ : List ℕ) (n : ℕ) (work : List ℕ) (i : ℕ) (t : Turning
       record { below = p.below; above = λ o b. at p o b (has (lows n work₀) o) refl }
     where
       at : Packed work (lows n work₀) (length (lows n work₀)) → (o : ℕ) → o < length work → (b : Bool) → has (lows n work₀) o ≡ b → get_or work o 0 / 16777216 ≡ turn (lows n work₀) o
-      at p o b true e = packed-turn work (lows n work₀) p o (has-true (lows n work₀) o e)
+      at p o b true e = packed-turn work (lows n work₀) p o (has-in (lows n work₀) o e)
       at p o b false e =
-          t.others o b (λ k a w. has-false (lows n work₀) o e (subst (λ (x : ℕ). x ∈ lows n work₀) w (∈-get_or (lows n work₀) k (omega (arith, t.upto, all)))))
-          ∙ sym all ∙ sym (turn-past (lows n work₀) o (has-false (lows n work₀) o e))
+          t.others o b (λ k a w. has-not (lows n work₀) o e (subst (λ (x : ℕ). x ∈ lows n work₀) w (∈-get_or (lows n work₀) k (omega (arith, t.upto, all)))))
+          ∙ sym all ∙ sym (turn-past (lows n work₀) o (has-not (lows n work₀) o e))
 
   module _ (h : i < n) where
     here : get_or work i 0 % 16777216 ≡ get_or (lows n work₀) i 0
