@@ -5,7 +5,7 @@ use Rattle.word.specs.Result.{Result, ok, refused}
 use Rattle.ty.specs.Types.{Ty, Ty.fields, Field, Field.field, Table, type_at}
 use Rattle.ty.specs.Words.{word_of, on_word, round_up}
 use Rattle.refusal.specs.Told.{number_of}
-use Rattle.layout.specs.Layout.{Lay, under, used_by, layout_at, layout_of, WithOffsets, on_laid}
+use Rattle.layout.specs.Layout.{Lay, under, used_by, layout_at, layout_of, on_laid}
 use Rattle.layout.specs.declared.Layout.{Layout}
 
 -- the offsets of the fields, up to the first that cannot be placed, of which a record that has a layout has none (proofs/Complete.antt)

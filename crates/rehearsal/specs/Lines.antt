@@ -1,6 +1,6 @@
 -- The lines of a rehearsal (02 [12]) as data and as text.
 use Rattle.std.specs.Prelude.{ℕ, ◌^◌, ◌<◌}
-use Rattle.text.specs.Text.{ascii, decimal, hex, line, Bytes, named}
+use Rattle.text.specs.Text.{ascii, decimal, hex, line, Bytes}
 use mathlib.Core.List.{List, [], ◌∷◌, flat_map}
 
 -- held objects are named by their turn among the allocate lines, from 1

@@ -3,7 +3,7 @@ use Rattle.std.specs.Prelude.{ℕ, zero, suc, Bool, true, false, length}
 use mathlib.Core.List.{List, [], ◌∷◌}
 use Rattle.std.proofs.Math.Option.{Option, none, some}
 use Rattle.text.specs.Text.{ascii, newline, comma, read_literal}
-use Rattle.text.specs.Reading.{Reader, give, ◌>>=◌}
+use Rattle.text.specs.Reading.{Reader, give, named, ◌>>=◌}
 use Rattle.text.specs.Format.{Format, number, pair}
 use Rattle.script.specs.Reading.{alloc_format}
 use Rattle.rehearsal.specs.Lines.{Line, alloc, store, drop}

@@ -2,7 +2,7 @@
 use Rattle.std.specs.Prelude.{ℕ, List, [], ◌∷◌}
 use Rattle.std.proofs.Math.Option.{Option, none, some}
 use Rattle.text.specs.Text.{ascii, comma, read_literal}
-use Rattle.text.specs.Reading.{Reader, give, ◌>>=◌}
+use Rattle.text.specs.Reading.{Reader, give, named, ◌>>=◌}
 use Rattle.text.specs.Format.{Format, number, bytes_line, pair}
 use Rattle.script.specs.Calls.{Call, alloc, take, seal, recycle}
 

@@ -2,7 +2,7 @@
 use Rattle.std.specs.Prelude.{ℕ, Bool, true, false, List, [], ◌∷◌, eqb, if◌then◌else◌}
 use Rattle.std.proofs.Math.Option.{Option, none, some}
 use Rattle.word.specs.Result.{Result, ok, refused}
-use Rattle.text.specs.Text.{newline, named}
+use Rattle.text.specs.Text.{newline}
 use Rattle.heap.specs.State.{State}
 use Rattle.heap.specs.Calls.{Changed, refuse, done, free, seal as sealed}
 use Rattle.object_door.specs.ObjectCalls.{allocating, recycling}

@@ -1,7 +1,7 @@
 -- The laws of specs/Text.antt and specs/Format.antt.
 use Prim.Native.Nat.{ℕ, zero, suc, ◌+◌, ◌-◌, ◌*◌, ◌/◌, ◌%◌, ◌^◌, ◌≤◌, ◌<◌}
-use Rattle.text.specs.Text.{Bytes, newline, Reader, digits, decimal, named, hex_digit, hex, read_literal, All}
-use Rattle.text.specs.Reading.{◌>>=◌, give, digit_of, ends, scan, capped, after, read_decimal, hex_digit_of, byte_of, read_hex, read_field}
+use Rattle.text.specs.Text.{Bytes, newline, digits, decimal, hex_digit, hex, read_literal, All}
+use Rattle.text.specs.Reading.{named, Reader, ◌>>=◌, give, digit_of, ends, scan, capped, after, read_decimal, hex_digit_of, byte_of, read_hex, read_field}
 use Rattle.text.specs.Inner.Answer.{Stops}
 use Rattle.std.specs.Prelude.{if◌then◌else◌}
 use Rattle.word.proofs.Bools.{and_both}

@@ -16,8 +16,8 @@ use Rattle.collection.specs.Collecting.{collected}
 use Rattle.collection.specs.Inner.Collects.{Collects}
 use Rattle.collection.proofs.Answers.{not-both}
 use Rattle.collection.proofs.Demand.{demand, found_ok}
-use Rattle.wanted.specs.Wanted.{Rising, Objects, FewestRoots}
-use Rattle.wanted.specs.Inner.Leaves.{Leaves, Keeps}
+use Rattle.wanted.specs.Wanted.{Rising, Objects}
+use Rattle.wanted.specs.Inner.Leaves.{FewestRoots, Leaves, Keeps}
 use Rattle.wanted.specs.Way.{roots_for}
 use Rattle.wanted.specs.Outcome.{handle_at, Outcome, Serves, Best}
 use Rattle.wanted.proofs.Roots.{Right, answer, roots-for, refused-exactly, unique}

@@ -11,7 +11,7 @@ use Rattle.reach.specs.Reach.{Graph, Starts, ◌∈◌}
 use Rattle.reach.specs.Marking.{State, visit, drained, marking, and_then}
 use Rattle.wanted.specs.Wanted.{Rising, Objects}
 use Rattle.wanted.specs.Way.{candidates, root_slots, possible, roots_for}
-use Rattle.wanted.specs.Inner.Picked.{down_from, those}
+use Rattle.wanted.specs.Inner.Picked.{down_from}
 use Rattle.wanted.specs.Search.{Going, going, noted, noting, meeting, upward, again, downward, as_many, secondly, notes_of, searched_by, searched}
 use Rattle.wanted.proofs.Picking.{Within}
 use Rattle.wanted.proofs.Flags.{rising-at}

@@ -6,7 +6,7 @@ use Rattle.heap.specs.Calls.{take_into}
 use Rattle.heap.specs.Done.{Leaves}
 use Rattle.heap.specs.Inner.Loans.{lies, SameLoans}
 use Rattle.heap.specs.declared.view_mut.ViewMut.{ViewMut}
-use Rattle.heap_calls.specs.Objects.{size_of, start_of, handed_out}
+use Rattle.heap_calls.specs.Objects.{object_size, object_start, handed_out}
 
 -- the object's bytes are in the output, the reply is its length and start
 pub record TakeDoes (l l' : Lent) (reply : Reply) (x : ℕ) (out out' : List ℕ) : Type 0 where
