@@ -5,4 +5,3 @@ pub mod Scalars
 pub mod View
 pub mod Walks
 pub mod Check
-pub mod Inner
