@@ -12,7 +12,8 @@ use Rattle.std.specs.Prelude.{Some, None}
 use Rattle.word.proofs.ListLaws.{length-tabulate, get_d_tabulate, tabulate-past}
 use Rattle.ty.specs.Types.{Ty, Ty.missing, Const.other, type_at, const_at}
 use Rattle.ty.specs.Scalars.{scalar_size, elem_size, logic_leaf, leaf_by}
-use Rattle.ty.specs.View.{read_entry, read_ty, entry_at, types_of, read_part, part_at, consts_of, bare}
+use Rattle.ty.specs.View.{read_entry, read_ty, entry_at, types_of, read_part, part_at, consts_of}
+use Rattle.ty.specs.Inner.Rows.{bare}
 use Rattle.ty.specs.declared.Entry.{Entry}
 use Rattle.ty.specs.declared.Entry.TheVariants.{Int, Physical, Enum, Real, Array, Record, Access, File, Protected}
 

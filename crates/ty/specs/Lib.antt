@@ -5,3 +5,4 @@ pub mod Scalars
 pub mod View
 pub mod Walks
 pub mod Check
+pub mod Inner

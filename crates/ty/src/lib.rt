@@ -6,7 +6,8 @@ ghost use Prim.Native.Nat.{◌+◌, ◌*◌, ◌/◌, ◌≤◌};
 ghost use Rattle.ty.specs.Words.{word_of, rank, round_up};
 ghost use Rattle.ty.specs.Scalars.{scalar_size, elem_size, logic_leaf};
 ghost use Rattle.ty.specs.Walks.{desc_array, desc_fields, desc_at, desc_size, any_field, handles_at, has_handles};
-ghost use Rattle.ty.specs.View.{entry_at, entry_of, fields_of, part_at, fields_from, types_of, bare};
+ghost use Rattle.ty.specs.View.{entry_at, entry_of, part_at, fields_from, types_of};
+ghost use Rattle.ty.specs.Inner.Rows.{fields_of, bare};
 
 // A type table as it is lent: four words a type, two a field, three a constant, and the constants' plain bytes.
 #[derive(Clone, Copy)]
