@@ -22,7 +22,7 @@ use Rattle.word.specs.Result.{ok, refused}
 use Rattle.ty.specs.Types.{Table}
 use Rattle.ty.specs.View.{table_of, lent as table_in}
 use Rattle.ty.specs.declared.Table.{Table as Columns}
-use Rattle.ty.proofs.CountLaws.{length_types}
+use Rattle.ty.proofs.Lookup.{length_types}
 use Rattle.heap.specs.State.{Slot, no_slot, slot_at}
 use Rattle.heap.specs.Lent.{Lent, slot_in, view}
 use Rattle.heap.specs.Inner.Seen.{seen, state}

@@ -20,6 +20,7 @@ use heap::view::View;
 use mark::Objects;
 use refusal::{Answer, Refusal, Reply};
 use ty::Table;
+use ty_check::check_table;
 
 // Do scratch, heap and type table let the handles of a slot be listed? Then the heap, to be read.
 fn admit<'a>(
@@ -38,7 +39,7 @@ fn admit<'a>(
     ensures shows { IfOk result (λ v. seen v ≡ lent heap narrow.now wide.now pool.now) }
 {
     let view = door::see(heap, narrow, wide, pool, marks, work)?;
-    if !table.check_table() {
+    if !check_table(table) {
         return Err(Refusal::TypeTable);
     }
     Ok(view)

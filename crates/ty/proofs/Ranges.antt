@@ -9,7 +9,8 @@ use lib.Dec.{ltb, leb, eqb}
 use borrow.Author.Tests.{leb-true}
 use Rattle.std.specs.Prelude.{Option, Some, None, if◌then◌else◌}
 use Rattle.ty.specs.Scalars.{elem_size}
-use Rattle.ty.specs.View.{read_entry, entry_of, entry_at, part_at, bare}
+use Rattle.ty.specs.View.{read_entry, entry_of, entry_at, part_at}
+use Rattle.ty.specs.Inner.Rows.{bare}
 use Rattle.ty.specs.declared.Entry.{Entry}
 use Rattle.ty.specs.declared.Entry.TheVariants.{Int, Physical, Enum, Real, Array, Record, Access, File, Protected}
 

@@ -47,19 +47,6 @@ unfoldable pub read_ty : List ℕ → Option Entry → Ty
 read_ty fs None = missing
 read_ty fs (Some e) = read_entry fs e
 
--- the fields of a record, the first and how many; none of another type
-unfoldable pub fields_of : Option Entry → Option (ℕ × ℕ)
-fields_of None = None
-fields_of (Some (Int lo hi)) = None
-fields_of (Some Physical) = None
-fields_of (Some (Enum n logic)) = None
-fields_of (Some Real) = None
-fields_of (Some (Array e c k)) = None
-fields_of (Some (Record i n)) = Some (i, n)
-fields_of (Some Access) = None
-fields_of (Some File) = None
-fields_of (Some Protected) = None
-
 -- where the bytes of constant c lie, from and to, three words a constant
 unfoldable pub part_at : List ℕ → ℕ → ℕ → Option (ℕ × ℕ)
 part_at w nb c =
@@ -81,10 +68,6 @@ consts_of cs b = tabulate (length cs / 3) (λ i. read_part b (part_at cs (length
 
 abbrev pub table_of : List ℕ → List ℕ → List ℕ → List ℕ → Table
 table_of w fs cs b = record { types = types_of w fs; consts = consts_of cs b }
-
--- an entry by itself, of a record without its fields
-abbrev pub bare : Entry → Ty
-bare e = read_entry [] e
 
 -- the table that is lent
 abbrev pub lent : Lent → Table

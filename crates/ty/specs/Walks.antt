@@ -34,7 +34,7 @@ size_at ts (suc n) t = size_by (size_at ts n) (type_at ts t)
 abbrev pub desc_bytes : List Ty → ℕ → Option ℕ
 desc_bytes ts t = size_at ts 65 t
 
--- The same in 64 bits, as the code has it on any table: none also where a sum is past 64 bits, which no checked table has (proofs/Sizes.antt).
+-- The same in 64 bits, as the code has it on any table: none also where a sum is past 64 bits, which no checked table has (crates/ty_check/proofs/Sizes.antt).
 unfoldable pub desc_array : (ℕ → Word) → ℕ → ℕ → ℕ → Word
 desc_array next e c k =
     on_word None (word_of (24 * k)) (λ h. if eqb c no_const then on_word None (next e) (λ m. word_of (h + m)) else Some h)

@@ -20,6 +20,7 @@ use mark::{Objects, seals};
 use pick::Search;
 use refusal::{Answer, Refusal, Reply};
 use ty::Table;
+use ty_check::check_table;
 
 mod list; // the roots that were picked, counted and written
 mod pick; // the two goings through the wanted slots
@@ -43,7 +44,7 @@ fn admit<'a>(
     ensures shows { IfOk result (λ v. seen v ≡ lent heap narrow.now wide.now pool.now) }
 {
     let view = door::see(heap, narrow, wide, pool, marks, work)?;
-    if !table.check_table() {
+    if !check_table(table) {
         return Err(Refusal::TypeTable);
     }
     if !heap_calls::recycle::rise(pins) {

@@ -13,7 +13,7 @@ use Rattle.refusal.specs.declared.Answer.{Answer}
 use Rattle.ty.specs.Check.{table_good}
 use Rattle.ty.specs.Walks.{desc_size, desc_bytes, has_handles}
 use Rattle.ty.specs.View.{types_of, table_of}
-use Rattle.ty.proofs.Sizes.{exact}
+use Rattle.ty_check.proofs.Sizes.{exact}
 use Rattle.layout.specs.Offsets.{Values, told, layout_call, written_by}
 use Rattle.yexwalu.specs.Table.{on_table}
 use Rattle.yexwalu.specs.Types.{laid, layout_called, sized, size_called, handles_called}
