@@ -2,7 +2,7 @@
 ghost use Rattle.std.specs.Prelude.{◌≡◌, true, ◌≤◌, length};
 ghost use Rattle.refusal.specs.Told.{nothing};
 ghost use Rattle.heap.specs.Inner.Loans.{lies, state, Replies};
-ghost use Rattle.ty.specs.View.{lent as table_lent};
+ghost use Rattle.ty.specs.Inner.Lent.{lent as table_lent};
 ghost use Rattle.frame.specs.Frame.{frame_handles, addresses_in};
 ghost use Rattle.roots.specs.Calls.{function, right, need};
 ghost use Rattle.roots.specs.Inner.Plans.{lent as lent_code};

@@ -1,5 +1,5 @@
 // What the roots of a heap reach, in the order first met.
-ghost use Rattle.ty.specs.View.{lent};
+ghost use Rattle.ty.specs.Inner.Lent.{lent};
 ghost use Rattle.compare_heaps.specs.Inner.Marked.{Clear, Meets, side_model};
 
 use mark::Objects;

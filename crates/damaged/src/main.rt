@@ -188,20 +188,12 @@ fn meant(b: &u8) -> u8 {
     }
 }
 
-fn ends_line(b: &u8) -> bool {
-    *b == b'\n'
-}
-
-fn ends_field(b: &u8) -> bool {
-    *b == b'|'
-}
-
 // Runs the lines of the input, each with the page that came last.
 fn run(rt: &(impl Print + AllocGlobal), input: &[u8]) -> io::Result<()> {
     let mut page: Vec<u8> = Vec::new(rt.alloc());
-    for line in input.split(ends_line) {
+    for line in input.split(|b| *b == b'\n') {
         let line: Vec<u8> = line.iter().map(meant).collect(rt.alloc())?;
-        let mut fields = line.splitn(3, ends_field);
+        let mut fields = line.splitn(3, |b| *b == b'|');
         let name = fields.next().unwrap_or(b"");
         match (fields.next(), fields.next()) {
             (Some(old), Some(new)) => damage(rt, name, &page, old, new)?,

@@ -11,7 +11,8 @@ use Rattle.word.specs.Put.{put}
 use Rattle.word.proofs.PutLaws.{mid-put}
 use Rattle.refusal.specs.declared.Refusal.{Refusal}
 use Rattle.ty.specs.Words.{word_of, round_up, Word}
-use Rattle.ty.specs.View.{fields_from, entry_at, lent}
+use Rattle.ty.specs.View.{fields_from, entry_at}
+use Rattle.ty.specs.Inner.Lent.{lent}
 use Rattle.ty.specs.declared.Entry.TheVariants.{Record}
 use Rattle.ty.specs.declared.Table.{Table as Lent}
 use Rattle.layout.specs.Layout.{Lay, placed, layout_at, layout_of}

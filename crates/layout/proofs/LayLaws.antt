@@ -13,7 +13,8 @@ use Rattle.refusal.specs.declared.Refusal.TheVariants.{Malformed, TooLarge}
 use Rattle.ty.specs.Types.{Ty, Ty.missing, Ty.int, Ty.physical, Ty.enum, Ty.real, Ty.array, Ty.fields, Ty.access, Ty.file, Ty.protected, type_at, Const, Const.plain, Const.other, Table, const_at, none}
 use Rattle.ty.specs.Words.{Word}
 use Rattle.ty.specs.Scalars.{scalar_size, elem_size, logic_leaf}
-use Rattle.ty.specs.View.{read_ty, read_entry, entry_at, fields_from, part_at, read_part, types_of, consts_of, lent}
+use Rattle.ty.specs.View.{read_ty, read_entry, entry_at, fields_from, part_at, read_part, types_of, consts_of}
+use Rattle.ty.specs.Inner.Lent.{lent}
 use Rattle.ty.specs.Inner.Rows.{bare}
 use Rattle.ty.specs.declared.Entry.{Entry}
 use Rattle.ty.specs.declared.Entry.TheVariants.{Int, Physical, Enum, Real, Array, Record, Access, File, Protected}

@@ -13,7 +13,8 @@ use Rattle.refusal.specs.declared.Refusal.{Refusal}
 use Rattle.refusal.specs.declared.Refusal.TheVariants.{ShortList}
 use Rattle.ty.specs.Types.{Field, Field.field, Table, type_at}
 use Rattle.ty.specs.Words.{word_of, on_word, round_up, Word}
-use Rattle.ty.specs.View.{fields_from, read_ty, read_entry, entry_at, types_of, lent}
+use Rattle.ty.specs.View.{fields_from, read_ty, read_entry, entry_at, types_of}
+use Rattle.ty.specs.Inner.Lent.{lent}
 use Rattle.ty.specs.declared.Entry.{Entry}
 use Rattle.ty.specs.declared.Entry.TheVariants.{Int, Physical, Enum, Real, Array, Record, Access, File, Protected}
 use Rattle.ty.specs.declared.Table.{Table as Lent}

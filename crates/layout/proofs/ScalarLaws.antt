@@ -13,7 +13,8 @@ use Rattle.word.specs.Num.{align_up}
 use Rattle.ty.specs.Types.{Ty, Ty.missing, Ty.int, Ty.physical, Ty.enum, Ty.real, Ty.array, Ty.fields, Ty.access, Ty.file, Ty.protected, type_at, none}
 use Rattle.ty.specs.Words.{word_of, round_up, Word}
 use Rattle.ty.specs.Scalars.{scalar_size}
-use Rattle.ty.specs.View.{fields_from, entry_at, lent}
+use Rattle.ty.specs.View.{fields_from, entry_at}
+use Rattle.ty.specs.Inner.Lent.{lent}
 use Rattle.ty.specs.declared.Entry.TheVariants.{Record}
 use Rattle.ty.specs.declared.Table.{Table as Lent}
 use Rattle.ty.proofs.Laws.{word-is}

@@ -7,7 +7,7 @@ ghost use Rattle.word.specs.Put.{put};
 ghost use Rattle.ty.specs.Types.{type_at};
 ghost use Rattle.ty.specs.Words.{word_of, round_up};
 ghost use Rattle.ty.specs.Scalars.{scalar_size, elem_size};
-ghost use Rattle.ty.specs.View.{lent};
+ghost use Rattle.ty.specs.Inner.Lent.{lent};
 ghost use Rattle.ty.specs.Inner.Rows.{bare};
 ghost use Rattle.layout.specs.Layout.{dim_len, dims_of, used_by, array_laid, placed, end_of, scalar_laid, scalar_layout};
 ghost use Rattle.layout.specs.Offsets.{offsets_of, told, listed_in, layout_call, written_by};

@@ -2,7 +2,7 @@
 // of the addresses that the frame and the registers have.
 ghost use Rattle.std.specs.Prelude.{◌≡◌, ◌++◌, ◌+◌, ◌/◌, length};
 ghost use Rattle.heap.specs.Inner.Seen.{state as heap_state};
-ghost use Rattle.ty.specs.View.{lent};
+ghost use Rattle.ty.specs.Inner.Lent.{lent};
 ghost use Rattle.rows.specs.Inner.Row.{listed};
 ghost use Rattle.frame.specs.Frame.{entries_of, entries_words};
 ghost use Rattle.addresses.specs.Listed.{slots_of};

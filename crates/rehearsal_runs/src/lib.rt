@@ -3,7 +3,7 @@
 
 ghost use Rattle.std.specs.Prelude.{◌≡◌, true, ◌/◌, length};
 ghost use Rattle.text.specs.Inner.Wrote.{Wrote};
-ghost use Rattle.ty.specs.View.{lent as tabled};
+ghost use Rattle.ty.specs.Inner.Lent.{lent as tabled};
 ghost use Rattle.heap.specs.Lent.{lent};
 ghost use Rattle.rehearsal.specs.Lines.{is_text};
 ghost use Rattle.rehearsal.specs.Runs.{figures_line};

@@ -20,7 +20,8 @@ use Rattle.std.specs.Prelude.{Ok, Err, if◌then◌else◌}
 use Rattle.std.specs.Prelude.{Option as Outcome}
 use Rattle.word.specs.Result.{ok, refused}
 use Rattle.ty.specs.Types.{Table}
-use Rattle.ty.specs.View.{table_of, lent as table_in}
+use Rattle.ty.specs.View.{table_of}
+use Rattle.ty.specs.Inner.Lent.{lent as table_in}
 use Rattle.ty.specs.declared.Table.{Table as Columns}
 use Rattle.ty.proofs.Lookup.{length_types}
 use Rattle.heap.specs.State.{Slot, no_slot, slot_at}

@@ -3,7 +3,7 @@
 #![tactic(auto)]
 
 ghost use Rattle.std.specs.Prelude.{◌≡◌, [], ◌∷◌, ◌<◌, length, IfOk};
-ghost use Rattle.ty.specs.View.{lent as table_in};
+ghost use Rattle.ty.specs.Inner.Lent.{lent as table_in};
 ghost use Rattle.traced.specs.Listing.{listing};
 ghost use Rattle.traced.specs.Inner.Lists.{Lists};
 ghost use Rattle.heap.specs.Lent.{lent};

@@ -1,2 +1,3 @@
 -- What only the contracts of inner functions cite.
+pub mod Lent
 pub mod Rows

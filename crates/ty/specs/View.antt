@@ -4,7 +4,6 @@ use Rattle.std.specs.Prelude.{ℕ, zero, suc, ◌+◌, ◌-◌, ◌*◌, ◌/◌
 use Rattle.ty.specs.Types.{Ty, Ty.missing, Ty.int, Ty.physical, Ty.enum, Ty.real, Ty.array, Ty.fields, Ty.access, Ty.file, Ty.protected, Field, Field.field, Const, Const.plain, Const.other, Table}
 use Rattle.word.specs.Lists.{tabulate}
 use Rattle.ty.specs.declared.Entry.{Entry}
-use Rattle.ty.specs.declared.Table.{Table as Lent}
 use Rattle.ty.specs.declared.Entry.TheVariants.{Int, Physical, Enum, Real, Array, Record, Access, File, Protected}
 
 -- the type whose class is the first of its words; a record whose fields lie outside of the nf fields is none
@@ -68,7 +67,3 @@ consts_of cs b = tabulate (length cs / 3) (λ i. read_part b (part_at cs (length
 
 abbrev pub table_of : List ℕ → List ℕ → List ℕ → List ℕ → Table
 table_of w fs cs b = record { types = types_of w fs; consts = consts_of cs b }
-
--- the table that is lent
-abbrev pub lent : Lent → Table
-lent T = table_of T.types.now T.fields.now T.consts.now T.bytes.now

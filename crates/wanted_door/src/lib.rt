@@ -3,7 +3,7 @@
 #![tactic(auto)]
 
 ghost use Rattle.std.specs.Prelude.{◌≡◌, [], ◌∷◌, map, length, IfOk};
-ghost use Rattle.ty.specs.View.{lent as table_in};
+ghost use Rattle.ty.specs.Inner.Lent.{lent as table_in};
 ghost use Rattle.heap.specs.Lent.{lent};
 ghost use Rattle.heap.specs.Inner.Seen.{seen, state};
 ghost use Rattle.traced.specs.Inner.Lists.{Lists};

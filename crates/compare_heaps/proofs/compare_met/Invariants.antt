@@ -1,5 +1,5 @@
 -- `compare_heaps::compare_met` meets its contract.
-use Rattle.ty.specs.View.{lent}
+use Rattle.ty.specs.Inner.Lent.{lent}
 use Rattle.compare_heaps.proofs.Going.{GoesMet}
 use Rattle.compare_heaps.proofs.compare_met.Given as goal
 

@@ -1,7 +1,7 @@
 -- `compare_heaps::order_heaps` meets its contract.
 use mathlib.Core.Path.{◌∙◌}
 use native.Mathlib.Omega.{arith}
-use Rattle.ty.specs.View.{lent}
+use Rattle.ty.specs.Inner.Lent.{lent}
 use Rattle.models.proofs.Heaps.{short-constants}
 use Rattle.compare_heaps.proofs.Whole.{both-first, both-second, both-can, both-found, mark-room, mark-clear}
 use Rattle.compare_heaps.proofs.order_heaps.Goals as goal

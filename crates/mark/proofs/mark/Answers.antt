@@ -1,5 +1,5 @@
 -- `mark::mark` meets its contract.
-use Rattle.ty.specs.View.{lent}
+use Rattle.ty.specs.Inner.Lent.{lent}
 use Rattle.mark.specs.Inner.Objects.{laid}
 use Rattle.mark.proofs.Whole.{laid-scratch, laid-stuck, laid-marked}
 use Rattle.mark.proofs.mark.Goals as goal

@@ -3,7 +3,7 @@ use native.Mathlib.Omega.{arith}
 use mathlib.Core.List.{[]}
 use mathlib.Core.Path.{sym, ap, ◌∙◌}
 use Prim.Native.Nat.{ℕ, ◌/◌}
-use Rattle.ty.specs.View.{lent as tabled}
+use Rattle.ty.specs.Inner.Lent.{lent as tabled}
 use Rattle.heap.specs.Lent.{lent}
 use Rattle.rehearsal_line.proofs.Leading.{led-alloc, led-more}
 use Rattle.rehearsal_line.proofs.Lined.{same-turns, alloc-ends, alloc_goes}

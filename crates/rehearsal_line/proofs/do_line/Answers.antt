@@ -1,6 +1,6 @@
 -- `rehearsal_line::do_line` meets its contract.
 use Rattle.heap.specs.Lent.{lent}
-use Rattle.ty.specs.View.{lent as tabled}
+use Rattle.ty.specs.Inner.Lent.{lent as tabled}
 use mathlib.Core.Path.{refl, ap}
 use Rattle.heap.specs.declared.Heap.{Heap}
 use Rattle.rehearsal_lines.specs.Inner.Found.{step_in}

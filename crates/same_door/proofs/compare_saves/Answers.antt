@@ -4,7 +4,7 @@ use mathlib.Core.Path.{subst}
 use Rattle.std.proofs.lemmas.Result.{err_from_is_err_and, IfOk-at_ok}
 use Rattle.heap.specs.Lent.{Lent, view}
 use Rattle.heap.specs.Inner.Seen.{seen}
-use Rattle.ty.specs.View.{lent}
+use Rattle.ty.specs.Inner.Lent.{lent}
 use Rattle.door.specs.HeapCalls.{entry_of}
 use Rattle.saves.specs.Saves.{ordering}
 use Rattle.compare_heaps.specs.Inner.Compared.{compared_by, CanMark}

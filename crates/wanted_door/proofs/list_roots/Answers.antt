@@ -2,7 +2,7 @@
 use mathlib.Core.Path.{◌≡◌, sym, subst}
 use mathlib.Core.List.{[], map}
 use lib.ListN.{take}
-use Rattle.ty.specs.View.{lent}
+use Rattle.ty.specs.Inner.Lent.{lent}
 use Rattle.mark.specs.Inner.Graph.{graph_in}
 use Rattle.mark.specs.Inner.Objects.{Laid}
 use Rattle.mark.specs.Inner.Scratch.{high}

@@ -1,5 +1,5 @@
 -- `compare_heaps::meet::first_met` meets its contract.
-use Rattle.ty.specs.View.{lent}
+use Rattle.ty.specs.Inner.Lent.{lent}
 use Rattle.compare_heaps.proofs.Meeting.{clear-scratch, stopped, meet-stops, meet-can, meet-done}
 use Rattle.compare_heaps.proofs.meet.first_met.Goals as goal
 

@@ -3,7 +3,7 @@ use Prim.Native.Nat.{ℕ}
 use mathlib.Core.Path.{sym, ap}
 use mathlib.Core.List.{List, ◌++◌}
 use Rattle.std.specs.Prelude.{Some, None}
-use Rattle.ty.specs.View.{lent}
+use Rattle.ty.specs.Inner.Lent.{lent}
 use Rattle.frame.specs.Frame.{entries_of, entries_words}
 use Rattle.frame.proofs.Words.{frame-words}
 use Rattle.addresses.specs.Listed.{slots_of}

@@ -1,5 +1,5 @@
 -- `mark::joined::mark_joined` meets its contract.
-use Rattle.ty.specs.View.{lent}
+use Rattle.ty.specs.Inner.Lent.{lent}
 use Rattle.mark.specs.Inner.Objects.{laid}
 use Rattle.mark.specs.Inner.Safepoints.{live_values, handles_in, pinned_in}
 use Rattle.mark.proofs.Whole.{laid-scratch, laid-joined-stuck, laid-joined-marked}

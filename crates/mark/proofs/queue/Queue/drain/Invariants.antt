@@ -1,6 +1,6 @@
 -- `mark::queue::Queue::drain` meets its contract.
 use Prim.Native.Nat.{◌-◌}
-use Rattle.ty.specs.View.{lent}
+use Rattle.ty.specs.Inner.Lent.{lent}
 use Rattle.reach.specs.Marking.{drained}
 use Rattle.mark.specs.Inner.Objects.{graph_of}
 use Rattle.mark.specs.Inner.Queues.{state}
