@@ -2,7 +2,6 @@
 ghost use Rattle.std.specs.Prelude.{◌≡◌, true, ◌≤◌, length};
 ghost use Rattle.refusal.specs.Told.{nothing};
 ghost use Rattle.heap.specs.Inner.Loans.{lies, state, Replies};
-ghost use Rattle.ty.specs.View.{lent as table_lent};
 ghost use Rattle.frame.specs.Frame.{frame_handles, addresses_in};
 ghost use Rattle.roots.specs.Calls.{function, right, need};
 ghost use Rattle.roots.specs.Inner.Plans.{lent as lent_code};
@@ -10,6 +9,7 @@ ghost use Rattle.mark.specs.Inner.Safepoints.{live_values, handles_in, pinned_in
 ghost use Rattle.collection.specs.Joined.{joined_by};
 ghost use Rattle.collect.specs.Inner.Safepoint.{at_safepoint, CanLook, RootRow};
 ghost use Rattle.mark.specs.Inner.Scratch.{CanMark};
+ghost use Rattle.ty.specs.Inner.Lent.{lent as table_lent};
 
 use crate::sweep_after;
 use addresses::Pairs;

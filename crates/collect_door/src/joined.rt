@@ -17,6 +17,7 @@ use refusal::{Answer, Refusal};
 use roots::Code;
 use roots::check::{check_function, rows_fit};
 use ty::Table;
+use ty_check::check_table;
 
 // Is there scratch enough for the heap and for rows of so many blocks and registers, and is the heap well formed?
 fn enter_rows(
@@ -58,7 +59,7 @@ pub fn admit_inputs(
     ensures { result ≡ admitted (input_tests table.now.types.now table.now.fields.now table.now.consts.now table.now.bytes.now
         (code_lent code.now) values.now pins.now addresses.now) }
 {
-    if !table.check_table() {
+    if !check_table(table) {
         return Err(Refusal::TypeTable);
     }
     if !check_function(code) {

@@ -16,6 +16,7 @@ ghost use Rattle.held_reads.specs.Slot.{held_slot_call, slot_out};
 use held::see;
 use refusal::{Answer, Refusal};
 use ty::Table;
+use ty_check::check_table;
 
 // The handles that a live slot shows, in the order in which it is traced; they go to the lent list from its front on. 10, 9, 13, 7. First: how many.
 // Kept: the C interface lends the header and the heap in parts, and what a call here requires is said of these.
@@ -46,7 +47,7 @@ pub fn yexwalu_held_slot_handles(
         consts,
         bytes,
     };
-    if !table.check_table() {
+    if !check_table(&table) {
         return Answer::from(Err(Refusal::TypeTable));
     }
     let view = see(tag, numbers, log, lengths, narrow, wide, pool);

@@ -20,6 +20,7 @@ use heap::view::View;
 use refusal::{Answer, Refusal};
 use std::cmp::Ordering;
 use ty::Table;
+use ty_check::check_table;
 
 mod given; // one of the two heaps, as it is lent
 
@@ -75,7 +76,7 @@ fn admit<'a, 'b>(
     ensures shows { IfOk result (λ v. (seen v.0 ≡ memory_of given.entry) × (seen v.1 ≡ memory_of other.entry)) }
 {
     let views = enter_both(given, other, marks, work, other_marks, other_work)?;
-    if !table.check_table() {
+    if !check_table(table) {
         return Err(Refusal::TypeTable);
     }
     Ok(views)

@@ -10,9 +10,8 @@ use Rattle.refusal.proofs.Numbers.{told-once}
 use Rattle.std.specs.Prelude.{Ok, Err, if◌then◌else◌, Option as Outcome}
 use Rattle.word.specs.Result.{ok, refused}
 use Rattle.ty.specs.Types.{Table}
-use Rattle.ty.specs.View.{table_of, lent as table_in}
+use Rattle.ty.specs.View.{table_of}
 use Rattle.ty.specs.declared.Table.{Table as Columns}
-use Rattle.ty.proofs.CountLaws.{length_types}
 use Rattle.heap.specs.State.{Slot, no_slot, slot_at}
 use Rattle.heap.specs.Lent.{Lent, slot_in, view}
 use Rattle.heap.specs.Inner.Seen.{seen, state}
@@ -27,6 +26,8 @@ use Rattle.slot_door.specs.Traceable.{traced, fits_table, first_failing, misfit,
 use Rattle.slot_door.specs.Inner.Misfit.{misfit_in}
 use Rattle.slot_door.proofs.SlotCalls.{fit-of}
 use Rattle.door.specs.Inner.Entered.{Entered}
+use Rattle.ty.specs.Inner.Lent.{lent as table_in}
+use Rattle.ty.proofs.Lookup.{length_types}
 use mathlib.Core.Path.{◌≡◌, refl, sym, ap, ◌∙◌}
 use mathlib.Core.Bool.{Bool, true, false}
 use mathlib.Core.List.{List, [], ◌∷◌, map}

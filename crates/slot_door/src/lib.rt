@@ -3,7 +3,6 @@
 #![tactic(auto)]
 
 ghost use Rattle.std.specs.Prelude.{◌≡◌, [], ◌∷◌, ◌<◌, length, IfOk};
-ghost use Rattle.ty.specs.View.{lent as table_in};
 ghost use Rattle.traced.specs.Listing.{listing};
 ghost use Rattle.traced.specs.Inner.Lists.{Lists};
 ghost use Rattle.heap.specs.Lent.{lent};
@@ -14,6 +13,7 @@ ghost use Rattle.slot_door.specs.Traceable.{fits_table, misfit, trace_call};
 ghost use Rattle.slot_door.specs.Inner.Misfit.{misfit_in};
 ghost use Rattle.slot_door.specs.Inner.Objects.{shown_of};
 ghost use Rattle.door.specs.Inner.Entered.{Entered, entry_of};
+ghost use Rattle.ty.specs.Inner.Lent.{lent as table_in};
 
 use handle::Slots;
 use heap::Heap;
@@ -21,6 +21,7 @@ use heap::view::View;
 use mark::Objects;
 use refusal::{Answer, Refusal, Reply};
 use ty::Table;
+use ty_check::check_table;
 
 // Do scratch, heap and type table let the handles of a slot be listed? Then the heap, to be read.
 fn admit<'a>(
@@ -39,7 +40,7 @@ fn admit<'a>(
     ensures shows { IfOk result (λ v. seen v ≡ lent heap narrow.now wide.now pool.now) }
 {
     let view = door::see(heap, narrow, wide, pool, marks, work)?;
-    if !table.check_table() {
+    if !check_table(table) {
         return Err(Refusal::TypeTable);
     }
     Ok(view)

@@ -14,7 +14,6 @@ use Rattle.ty.specs.Check.{table_good}
 use Rattle.ty.specs.Walks.{desc_bytes, has_handles}
 use Rattle.ty.specs.DescSize.{desc_size}
 use Rattle.ty.specs.View.{types_of, table_of}
-use Rattle.ty.proofs.Sizes.{exact}
 use Rattle.layout.specs.Offsets.{Values, layout_call, written_by}
 use Rattle.layout.specs.Inner.Told.{told}
 use Rattle.yexwalu.specs.Table.{on_table}
@@ -22,6 +21,7 @@ use Rattle.yexwalu.specs.Types.{laid, layout_called, sized, size_called, handles
 use Rattle.held_types.specs.declared.Laying.{Laying as LayoutAnswer}
 use Rattle.held_types.proofs.Telling.{yes-no}
 use Rattle.yexwalu.proofs.TableCalls.{table-bad, table-good}
+use Rattle.ty_check.proofs.Sizes.{exact}
 
 sized-some : (x : Option ℕ) (n : ℕ) → x ≡ Some n → sized x ≡ ok n
 sized-some None n e = let z : ◌≡◌ {A = ℕ} 0 1 = cc in absurd (omega arith)

@@ -1,17 +1,17 @@
 -- `same_door::compare_saves` meets its contract.
 use Rattle.std.proofs.Common.{◌≡◌, ap, sym, ◌∙◌}
-use mathlib.Core.Path.{subst}
 use Rattle.std.proofs.lemmas.Result.{err_from_is_err_and, IfOk-at_ok}
 use Rattle.heap.specs.Lent.{Lent, view}
 use Rattle.heap.specs.Inner.Seen.{seen}
-use Rattle.ty.specs.View.{lent}
 use Rattle.door.specs.Inner.Entered.{entry_of}
 use Rattle.saves.specs.Saves.{ordering}
 use Rattle.compare_heaps.specs.Inner.Compared.{compared_by, CanMark}
 use Rattle.same_door.specs.Inner.Given.{memory_of, words_in, given_save}
 use Rattle.same_door.proofs.Telling.{can-first, can-second, compares-refused, compares-found}
-use Rattle.same_door.proofs.compare_saves.Goals as goal
 use Rattle.same_door.proofs.compare_saves.Goals.{In_ok-views}
+use Rattle.ty.specs.Inner.Lent.{lent}
+use mathlib.Core.Path.{subst}
+use Rattle.same_door.proofs.compare_saves.Goals as goal
 
 -- what was lent is what is shown
 both : (c : In_ok-views) → (seen c.in_ok-views.views.0 ≡ memory_of c.args.given) × (seen c.in_ok-views.views.1 ≡ memory_of c.args.other)
