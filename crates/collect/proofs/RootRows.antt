@@ -21,15 +21,17 @@ use Rattle.heap.proofs.Testing.{formed-tested}
 use Rattle.flow.specs.Function.{safepoint}
 use Rattle.flow.specs.Dataflow.{live_before, live_row, holder, track}
 use Rattle.flow.proofs.Lists.{passing-same}
-use Rattle.roots.specs.View.{view as function_in}
-use Rattle.roots.specs.Calls.{Lent, function, right, need}
-use Rattle.roots.specs.Inner.Columns.{wanted, seen, cell, In}
-use Rattle.roots.specs.Inner.Plans.{planned, all_seen, out_row}
-use Rattle.roots.specs.declared.Tracked.{Tracked}
-use Rattle.roots.specs.declared.Tracked.TheVariants.{References}
-use Rattle.roots.specs.declared.Plan.{Plan}
-use Rattle.roots.proofs.Checks.{formed-fit}
-use Rattle.roots.proofs.Steps.{part-cell}
+use Rattle.code.specs.View.{view as function_in}
+use Rattle.code.specs.Lent.{Lent, function, right, need}
+use Rattle.code.specs.Inner.Columns.{wanted, seen, In}
+use Rattle.liveness.specs.Inner.Scratch.{cell}
+use Rattle.code.specs.Inner.Plans.{planned, all_seen}
+use Rattle.liveness.specs.Inner.Plans.{out_row}
+use Rattle.code.specs.declared.Tracked.{Tracked}
+use Rattle.code.specs.declared.Tracked.TheVariants.{References}
+use Rattle.code.specs.declared.Plan.{Plan}
+use Rattle.code.proofs.Checks.{formed-fit}
+use Rattle.liveness.proofs.Steps.{part-cell}
 use Rattle.roots.proofs.Answers.{need-is, found-holder, seen-holder}
 use Rattle.collection.specs.Joined.{is_reference, live_references, of_class, registers_of, values_of, joined_by, pins_at, joined}
 use Rattle.addresses.specs.Listed.{slots_of}

@@ -24,7 +24,7 @@ use Rattle.heap.proofs.Testing.{formed-tested}
 use Rattle.heap_calls.specs.Pins.{rising}
 use Rattle.addresses.specs.Listed.{paired}
 use Rattle.flow.specs.Function.{safepoint}
-use Rattle.roots.specs.Calls.{Lent as Code, function, right, need}
+use Rattle.code.specs.Lent.{Lent as Code, function, right, need}
 use Rattle.collect.specs.Collect.{collecting, CanCollect}
 use Rattle.collect.specs.Inner.Safepoint.{at_safepoint, CanLook}
 use Rattle.door.specs.HeapCalls.{Test, test, admitted, enough, zeros, scratch_after, Entered, outcome, outcome_of}

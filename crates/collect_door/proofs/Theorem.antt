@@ -17,8 +17,8 @@ use Rattle.heap.proofs.Testing.{formed-tested}
 use Rattle.heap.proofs.Keeping.{leaves}
 use Rattle.flow.specs.Function.{Function, valid}
 use Rattle.flow.proofs.Validity.{parts-valid}
-use Rattle.roots.specs.Calls.{Lent as Code, function, right}
-use Rattle.roots.proofs.Forms.{formed-parts}
+use Rattle.code.specs.Lent.{Lent as Code, function, right}
+use Rattle.code.proofs.Forms.{formed-parts}
 use Rattle.reach.specs.Reach.{Graph, Starts, UntraceableFrom}
 use Rattle.collection.specs.Swept.{swept}
 use Rattle.collection.specs.Shown.{shown}

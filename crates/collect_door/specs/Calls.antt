@@ -14,7 +14,7 @@ use Rattle.heap.specs.WellFormed.{well_formed}
 use Rattle.heap.specs.Calls.{Changed}
 use Rattle.heap_calls.specs.Pins.{rising}
 use Rattle.flow.specs.Function.{safepoint}
-use Rattle.roots.specs.Calls.{Lent as Code, function, right, need}
+use Rattle.code.specs.Lent.{Lent as Code, function, right, need}
 use Rattle.addresses.specs.Listed.{paired}
 use Rattle.collection.specs.Joined.{Pinning, joined}
 use Rattle.collect.specs.Collect.{collecting}

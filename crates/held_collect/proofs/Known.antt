@@ -11,7 +11,7 @@ use Rattle.heap.specs.Lent.{Lent, view, slot_count}
 use Rattle.heap.specs.WellFormed.{well_formed}
 use Rattle.heap.specs.Done.{Tells}
 use Rattle.heap.specs.declared.Heap.{Heap}
-use Rattle.roots.specs.Calls.{function, need}
+use Rattle.code.specs.Lent.{function, need}
 use Rattle.collect.specs.Collect.{collecting}
 use Rattle.collect.specs.Inner.Safepoint.{at_safepoint}
 use Rattle.door.specs.HeapCalls.{Test, test, Entry, ready, admitted, enough, zeros, Entered, outcome, outcome_of}

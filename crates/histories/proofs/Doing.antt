@@ -17,7 +17,7 @@ use Rattle.heap.proofs.Sound.{Sound}
 use Rattle.heap.proofs.Storing.{well-stored}
 use Rattle.heap.proofs.Testing.{formed-tested, formed-test}
 use Rattle.heap_calls.specs.Objects.{size_of, start_of}
-use Rattle.roots.specs.Calls.{function}
+use Rattle.code.specs.Lent.{function}
 use Rattle.collection.specs.Joined.{joined}
 use Rattle.collect.specs.Collect.{collecting}
 use Rattle.door.specs.HeapCalls.{Test, admitted, whether, heap_tests, zeros, scratch_after, Outcome, outcome_of, calling, asked_of, asking as replying}

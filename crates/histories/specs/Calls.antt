@@ -7,7 +7,7 @@ use Rattle.refusal.specs.Told.{number_of, here, nothing}
 use Rattle.heap.specs.State.{State}
 use Rattle.heap.specs.Lent.{Lent, view, slot_count, pool_size}
 use Rattle.heap.specs.Calls.{edit as edited, write as written, reissue as reissued, free as freed}
-use Rattle.roots.specs.Calls.{function}
+use Rattle.code.specs.Lent.{function}
 use Rattle.collection.specs.Joined.{values_of, root_registers, pins_at}
 use Rattle.door.specs.HeapCalls.{Test, admitted, whether, heap_tests, Outcome, outcome_of, heap_call, Asked as Reply, asking as replying}
 use Rattle.object_door.specs.ObjectCalls.{allocating, recycling, take_call}

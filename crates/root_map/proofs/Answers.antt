@@ -12,12 +12,13 @@ use Rattle.word.specs.Put.{put}
 use Rattle.flow.specs.Function.{safepoint, safepoints}
 use Rattle.refusal.specs.Told.{answered, refused_by}
 use Rattle.refusal.specs.declared.Answer.{Answer}
-use Rattle.roots.specs.Calls.{Lent, function, right, need, after, scratch_after, registers_at}
-use Rattle.roots.specs.Inner.Columns.{wanted}
-use Rattle.roots.specs.Inner.Plans.{planned}
-use Rattle.roots.specs.declared.Tracked.{Tracked}
-use Rattle.roots.specs.declared.Plan.{Plan}
-use Rattle.roots.proofs.Forms.{code-count, formed-parts}
+use Rattle.code.specs.Lent.{Lent, function, right, need}
+use Rattle.roots.specs.Calls.{after, scratch_after, registers_at}
+use Rattle.code.specs.Inner.Columns.{wanted}
+use Rattle.code.specs.Inner.Plans.{planned}
+use Rattle.code.specs.declared.Tracked.{Tracked}
+use Rattle.code.specs.declared.Plan.{Plan}
+use Rattle.code.proofs.Forms.{code-count, formed-parts}
 use Rattle.roots.proofs.Answers.{yes-then, no-then}
 use Rattle.root_map.specs.Calls.{limits, Size, points_in, registers_in, live_refs_answer, LiveRefsCall}
 use Rattle.root_map.specs.Inner.Columns.{points_to, Counted, Fits, Written}

@@ -6,7 +6,8 @@ use Rattle.word.specs.Put.{put}
 use Rattle.refusal.specs.Told.{answered}
 use Rattle.refusal.specs.declared.Answer.{Answer}
 use Rattle.flow.specs.Function.{safepoints}
-use Rattle.roots.specs.Calls.{Lent, function, right, need, after, scratch_after, registers_at}
+use Rattle.code.specs.Lent.{Lent, function, right, need}
+use Rattle.roots.specs.Calls.{after, scratch_after, registers_at}
 
 -- where the registers of each end, if the first begin at `from`
 abbrev pub limits : (ℕ → List ℕ) → ℕ → List ℕ → List ℕ

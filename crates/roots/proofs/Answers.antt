@@ -29,12 +29,14 @@ use Rattle.word.proofs.Bools.{either, and_both, both-and}
 use Rattle.word.proofs.ChunkLaws.{pair-parts}
 use Rattle.flow.proofs.Lists.{passing-same, some_at, at_some}
 use Rattle.flow.proofs.Validity.{held, holder-is, holds_parts, parts-holds, safepoint-held, row_list, map-unique}
-use Rattle.roots.specs.View.{view, formed}
-use Rattle.roots.specs.Calls.{Lent, function, right, need, after, scratch_after, registers_at, live_at_answer, LiveAtCall}
-use Rattle.roots.specs.Inner.Columns.{seen, cell, live_at, Fixed, Found}
-use Rattle.roots.proofs.Turns.{inst-view}
-use Rattle.roots.proofs.Steps.{part-cell}
-use Rattle.roots.proofs.Forms.{formed-columns, formed-disjoint, blocks-count, block-at}
+use Rattle.code.specs.View.{view, formed}
+use Rattle.code.specs.Lent.{Lent, function, right, need}
+use Rattle.roots.specs.Calls.{after, scratch_after, registers_at, live_at_answer, LiveAtCall}
+use Rattle.code.specs.Inner.Columns.{seen, Found}
+use Rattle.liveness.specs.Inner.Scratch.{cell, live_at, Fixed}
+use Rattle.code.proofs.Views.{inst-view}
+use Rattle.liveness.proofs.Steps.{part-cell}
+use Rattle.code.proofs.Forms.{formed-columns, formed-disjoint, blocks-count, block-at}
 
 pub need-is : (nb W : ℕ) → (3 * nb + 2) * W ≡ nb * (3 * W) + 2 * W
 need-is nb W = add-mul (3 * nb) 2 W ∙ ap (λ (u : ℕ). u + 2 * W) (ap (λ (u : ℕ). u * W) (mul_comm 3 nb) ∙ mul_assoc nb 3 W)

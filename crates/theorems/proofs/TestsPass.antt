@@ -10,7 +10,7 @@ use Rattle.heap_calls.specs.Pins.{rising_from}
 use Rattle.addresses.specs.Listed.{addresses_of, paired}
 use Rattle.door.specs.HeapCalls.{admitted, enough}
 use Rattle.flow.specs.Function.{safepoint, valid}
-use Rattle.roots.specs.View.{view as code_view, formed}
+use Rattle.code.specs.View.{view as code_view, formed}
 use Rattle.collect_door.specs.Calls.{coded, roomy}
 use Rattle.theorems.specs.TestsPass.{TestsPass}
 

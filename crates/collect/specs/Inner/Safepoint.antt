@@ -7,7 +7,7 @@ use Rattle.ty.specs.Types.{Table}
 use Rattle.heap.specs.State.{State}
 use Rattle.heap.specs.Calls.{Changed, refuse}
 use Rattle.flow.specs.Function.{Function, safepoint}
-use Rattle.roots.specs.Calls.{Lent, function, right, need}
+use Rattle.code.specs.Lent.{Lent, function, right, need}
 use Rattle.collection.specs.Joined.{live_references, Pinning, joined}
 
 -- no map (16) where pc is no safepoint inside a block, the heap unchanged

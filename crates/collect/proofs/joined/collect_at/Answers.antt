@@ -2,7 +2,7 @@
 use mathlib.Core.Path.{refl, sym}
 use Rattle.ty.specs.View.{lent as table_lent}
 use Rattle.frame.specs.Frame.{frame_handles, addresses_in}
-use Rattle.roots.specs.Inner.Plans.{lent}
+use Rattle.code.specs.Inner.Plans.{lent}
 use Rattle.collect.proofs.RootRows.{small, row-past, rows-again, at_none, at_row}
 use Rattle.collect.proofs.joined.collect_at.Goals as goal
 

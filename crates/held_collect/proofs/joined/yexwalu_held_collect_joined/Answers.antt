@@ -3,7 +3,7 @@ use Rattle.std.proofs.Common.{refl, rules}
 use Rattle.refusal.specs.Told.{nothing}
 use Rattle.heap.specs.Lent.{Lent, lent, view}
 use Rattle.heap.specs.Done.{Tells}
-use Rattle.roots.specs.Calls.{function}
+use Rattle.code.specs.Lent.{function}
 use Rattle.collect.specs.Inner.Safepoint.{at_safepoint}
 use Rattle.collect_door.specs.Calls.{Asked, table, frame, pinning}
 use Rattle.held.specs.Held.{in_place}
