@@ -15,7 +15,7 @@ use Rattle.flow.proofs.Laws.{step-sound, Disjoint}
 use Rattle.flow.proofs.Fixpoint.{fixpoint-is}
 use Rattle.code.specs.View.{block_at}
 use Rattle.code.specs.Inner.Columns.{seen}
-use Rattle.liveness.specs.Inner.Scratch.{Outside, cell, live_at, one_below, set_bits, Rows, Linked, Pass, Solved, Fixed}
+use Rattle.liveness.specs.Inner.Scratch.{Outside, cell, live_at, one_below, set_bits, turn_of, Rows, Linked, Pass, Solved, Fixed}
 use Rattle.liveness.proofs.Scratch.{block-fits, cell-before, cell-after, live_of, live-not, live-frame}
 use Rattle.liveness.proofs.Steps.{Met, bits-kept}
 
@@ -110,29 +110,62 @@ module _ (f : Function) (s s₁ s₂ : List ℕ) (nb W b : ℕ) (changed : Bool)
       ⊎_elim (λ g. grows q b h (rows.gens b q known h g)) (λ y. met q h ∙ or_right (live_at s W nb q b) _ y)
       (or_cases (gen f q b) _ (ap (λ (X : ℕ → Bool). into f q X b) (sym (turn-same e q h)) ∙ x))
 
-pub passes_none : (ks ends refs bs s : List ℕ) (nb W : ℕ) → Linked bs s W nb → Pass ks ends refs bs s s nb W nb false
-passes_none ks ends refs bs s nb W l =
-    record { kept = refl; high = omega arith; linked = l; rows = λ t cs r. r; grown = omega arith; closed = λ e t cs q c r h k m. absurd (omega arith); more = λ e. absurd (false≢true e) }
+-- a pass that has taken i turns and is now at s
+pub record Passing (ks ends refs bs s₀ s : List ℕ) (nb W : ℕ) (rising : Bool) (i : ℕ) (changed : Bool) : Type 0 where
+  pub kept : length s ≡ length s₀
+  pub linked : Linked bs s W nb
+  pub rows : (t : ℕ → Bool) (cs : List ℕ) → Rows (seen t ks ends refs bs cs) s₀ W nb → Rows (seen t ks ends refs bs cs) s W nb
+  pub grown : set_bits (nb * (3 * W)) s₀ ≤ set_bits (nb * (3 * W)) s
+  pub closed : changed ≡ false → (t : ℕ → Bool) (cs : List ℕ) (q c : ℕ) → Rows (seen t ks ends refs bs cs) s₀ W nb → q < 64 * W → turn_of rising nb c < i → c < nb
+      → into (seen t ks ends refs bs cs) q (live_at s W nb q) c ≡ true → live_at s W nb q c ≡ true
+  pub more : changed ≡ true → set_bits (nb * (3 * W)) s₀ < set_bits (nb * (3 * W)) s
 
-module _ {ks ends refs bs s₀ s : List ℕ} {nb W b : ℕ} {changed grown : Bool} (inv : Pass ks ends refs bs s₀ s nb W b changed) (pos : 0 < b) (s₁ s₂ : List ℕ)
+-- each turn has a block, and each block a turn
+pub turn-below : (rising : Bool) (nb i b : ℕ) → b ≡ turn_of rising nb i → i < nb → b < nb
+turn-below true nb i b e h = let k : b ≡ i = e in omega arith
+turn-below false nb i b e h = let k : b ≡ nb - 1 - i = e in omega arith
+
+-- the turn of another block than that of turn i comes before it, or after it
+turn-other : (rising : Bool) (nb i b c : ℕ) → b ≡ turn_of rising nb i → i < nb → c < nb → turn_of rising nb c < i + 1 → (c ≡ b → ⊥) → turn_of rising nb c < i
+turn-other true nb i b c e h k l n = let x : b ≡ i = e in let y : c < i + 1 = l in let z : c < i = omega arith in z
+turn-other false nb i b c e h k l n = let x : b ≡ nb - 1 - i = e in let y : nb - 1 - c < i + 1 = l in let z : nb - 1 - c < i = omega arith in z
+
+pub passes_none : (ks ends refs bs s : List ℕ) (nb W : ℕ) (rising : Bool) → Linked bs s W nb → Passing ks ends refs bs s s nb W rising 0 false
+passes_none ks ends refs bs s nb W rising l =
+    record { kept = refl; linked = l; rows = λ t cs r. r; grown = omega arith; closed = λ e t cs q c r h k m. absurd (omega arith); more = λ e. absurd (false≢true e) }
+
+pub passes-end : {ks ends refs bs s₀ s : List ℕ} {nb W : ℕ} (rising : Bool) {i : ℕ} {changed : Bool} → Passing ks ends refs bs s₀ s nb W rising i changed → nb ≤ i
+    → Pass ks ends refs bs s₀ s nb W changed
+passes-end {nb = nb} rising {i} inv h = record {
+  kept = inv.kept;
+  linked = inv.linked;
+  rows = inv.rows;
+  closed = λ e t cs q r k b l. (let y : turn_of rising nb b < nb = turn-below rising nb b (turn_of rising nb b) refl l in inv.closed e t cs q b r k (omega arith) l);
+  more = inv.more;
+}
+
+module _ {ks ends refs bs s₀ s : List ℕ} {nb W i b : ℕ} {rising changed grown : Bool} (inv : Passing ks ends refs bs s₀ s nb W rising i changed) (low : i < nb)
+    (turn : b ≡ turn_of rising nb i) (s₁ s₂ : List ℕ)
     (o₁ : Outside s s₁ (nb * (3 * W)) W)
-    (c₁ : (t : ℕ → Bool) (cs : List ℕ) (q : ℕ) → q < 64 * W → cell s₁ (nb * (3 * W)) q ≡ out (seen t ks ends refs bs cs) (live_at s W nb q) (b - 1))
-    (m : Met s₁ s₂ (nb * (3 * W)) W ((b - 1) * (3 * W)) (nb * (3 * W)) ((b - 1) * (3 * W) + W) grown)
+    (c₁ : (t : ℕ → Bool) (cs : List ℕ) (q : ℕ) → q < 64 * W → cell s₁ (nb * (3 * W)) q ≡ out (seen t ks ends refs bs cs) (live_at s W nb q) b)
+    (m : Met s₁ s₂ (nb * (3 * W)) W (b * (3 * W)) (nb * (3 * W)) (b * (3 * W) + W) grown)
   where
+    known : b < nb
+    known = turn-below rising nb i b turn low
+
     sum₁ : set_bits (nb * (3 * W)) s₁ ≡ set_bits (nb * (3 * W)) s
     sum₁ = bits-kept (nb * (3 * W)) (omega arith) o₁
 
     rows₂ : (t : ℕ → Bool) (cs : List ℕ) → Rows (seen t ks ends refs bs cs) s₀ W nb → Rows (seen t ks ends refs bs cs) s₂ W nb
-    rows₂ t cs r = turn-rows (seen t ks ends refs bs cs) s s₁ s₂ nb W (b - 1) grown (omega (arith, inv.high)) (inv.rows t cs r) o₁ (c₁ t cs) m
+    rows₂ t cs r = turn-rows (seen t ks ends refs bs cs) s s₁ s₂ nb W b grown known (inv.rows t cs r) o₁ (c₁ t cs) m
 
     linked₂ : Linked bs s₂ W nb
-    linked₂ = linked-live (b - 1) (omega (arith, inv.high)) (linked-out inv.linked o₁) m.frame
+    linked₂ = linked-live b known (linked-out inv.linked o₁) m.frame
 
-    pub pass-grown : grown ≡ true → Pass ks ends refs bs s₀ s₂ nb W (b - 1) true
+    pass-grown : grown ≡ true → Passing ks ends refs bs s₀ s₂ nb W rising (i + 1) true
     pass-grown g =
         record {
           kept = m.frame.kept ∙ o₁.kept ∙ inv.kept;
-          high = omega (arith, inv.high);
           linked = linked₂;
           rows = rows₂;
           grown = omega (arith, inv.grown, sum₁, m.more g);
@@ -140,11 +173,10 @@ module _ {ks ends refs bs s₀ s : List ℕ} {nb W b : ℕ} {changed grown : Boo
           more = λ e. omega (arith, inv.grown, sum₁, m.more g);
         }
 
-    pub pass-still : grown ≡ false → Pass ks ends refs bs s₀ s₂ nb W (b - 1) changed
+    pass-still : grown ≡ false → Passing ks ends refs bs s₀ s₂ nb W rising (i + 1) changed
     pass-still g =
         record {
           kept = m.frame.kept ∙ o₁.kept ∙ inv.kept;
-          high = omega (arith, inv.high);
           linked = linked₂;
           rows = rows₂;
           grown = omega (arith, inv.grown, sum₁, sum₂);
@@ -152,30 +184,28 @@ module _ {ks ends refs bs s₀ s : List ℕ} {nb W b : ℕ} {changed grown : Boo
           more = λ h. omega (arith, inv.more h, sum₁, sum₂);
         }
       where
-        e : s₂ ≡ s₁
-        e = m.same g
-
         sum₂ : set_bits (nb * (3 * W)) s₂ ≡ set_bits (nb * (3 * W)) s₁
         sum₂ = ap (set_bits (nb * (3 * W))) (m.same g)
 
-        closed' : changed ≡ false → (t : ℕ → Bool) (cs : List ℕ) (q c : ℕ) → Rows (seen t ks ends refs bs cs) s₀ W nb → q < 64 * W → b - 1 ≤ c → c < nb
+        closed' : changed ≡ false → (t : ℕ → Bool) (cs : List ℕ) (q c : ℕ) → Rows (seen t ks ends refs bs cs) s₀ W nb → q < 64 * W → turn_of rising nb c < i + 1 → c < nb
             → into (seen t ks ends refs bs cs) q (live_at s₂ W nb q) c ≡ true → live_at s₂ W nb q c ≡ true
-        closed' h t cs q c r l lo hi x = go (ℕ_discrete c (b - 1))
+        closed' h t cs q c r l before hi x = go (ℕ_discrete c b)
           where
-            known : b - 1 < nb
-            known = omega (arith, inv.high)
-
             same : live_at s₂ W nb q ≡ live_at s W nb q
-            same = turn-same (seen t ks ends refs bs cs) s s₁ s₂ nb W (b - 1) grown known (inv.rows t cs r) o₁ (c₁ t cs) m (m.same g) q l
+            same = turn-same (seen t ks ends refs bs cs) s s₁ s₂ nb W b grown known (inv.rows t cs r) o₁ (c₁ t cs) m (m.same g) q l
 
-            go : Dec (c ≡ b - 1) → live_at s₂ W nb q c ≡ true
+            go : Dec (c ≡ b) → live_at s₂ W nb q c ≡ true
             go (yes d) =
                 ap (live_at s₂ W nb q) d
-                ∙ turn-closed (seen t ks ends refs bs cs) s s₁ s₂ nb W (b - 1) grown known (inv.rows t cs r) o₁ (c₁ t cs) m (m.same g) q l
+                ∙ turn-closed (seen t ks ends refs bs cs) s s₁ s₂ nb W b grown known (inv.rows t cs r) o₁ (c₁ t cs) m (m.same g) q l
                 (ap (λ (u : ℕ). into (seen t ks ends refs bs cs) q (live_at s₂ W nb q) u) (sym d) ∙ x)
             go (no d) =
                 ap (λ (X : ℕ → Bool). X c) same
-                ∙ inv.closed h t cs q c r l (omega arith) hi (ap (λ (X : ℕ → Bool). into (seen t ks ends refs bs cs) q X c) (sym same) ∙ x)
+                ∙ inv.closed h t cs q c r l (turn-other rising nb i b c turn low hi before d) hi (ap (λ (X : ℕ → Bool). into (seen t ks ends refs bs cs) q X c) (sym same) ∙ x)
+
+    pub pass-on : {now : Bool} → ((grown ≡ true) × (now ≡ true)) ⊎ ((grown ≡ false) × (now ≡ changed)) → Passing ks ends refs bs s₀ s₂ nb W rising (i + 1) now
+    pass-on (inl (g, e)) = subst (Passing ks ends refs bs s₀ s₂ nb W rising (i + 1)) (sym e) (pass-grown g)
+    pass-on (inr (g, e)) = subst (Passing ks ends refs bs s₀ s₂ nb W rising (i + 1)) (sym e) (pass-still g)
 
 pub record Solving (ks ends refs bs s₀ s : List ℕ) (nb W : ℕ) : Type 0 where
   pub kept : length s ≡ length s₀
@@ -195,6 +225,3 @@ pub linked-next : {bs s : List ℕ} {W nb : ℕ} → Linked bs s W nb → (b st 
     → v ≡ get_or s (b * (3 * W) + 2 * W) 0 → first_at (tabulate nb (block_at bs)) e 0 ≡ one_below v nb
 linked-next {bs} {s} {W} {nb} l b st e v known est ee h ev =
     ap (λ (u : ℕ). first_at (tabulate nb (block_at bs)) u 0) ee ∙ l.next b known (omega arith) ∙ ap (λ (u : ℕ). one_below u nb) (sym ev)
-
-pub below-high : {b nb : ℕ} → 0 < b → b ≤ nb → b - 1 < nb
-below-high h k = omega arith

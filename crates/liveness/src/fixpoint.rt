@@ -5,7 +5,7 @@ ghost use Rattle.std.specs.Prelude.{◌≡◌, Bool, true, false, ◌||◌, List
 ghost use Rattle.flow.specs.Function.{existing};
 ghost use Rattle.flow.specs.Dataflow.{back, killed, any_of, out};
 ghost use Rattle.code.specs.Inner.Plans.{part_seen, all_seen, tested};
-ghost use Rattle.liveness.specs.Inner.Scratch.{Outside, cell, live_at, Linked, Pass, Solved, Fixed};
+ghost use Rattle.liveness.specs.Inner.Scratch.{Outside, cell, live_at, turn_of, Linked, Pass, Solved, Fixed};
 ghost use Rattle.liveness.specs.Inner.Plans.{out_row, Room, StartChains, BegunIn, BuiltIn};
 
 use crate::chains::{BlockChains, NO_BLOCK};
@@ -82,7 +82,7 @@ fn join_targets(s: &mut [u64], flow: &Flow, targets: &[u32])
 
 // The row after the blocks' gets the live-out of block b.
 fn leave(s: &mut [u64], flow: &Flow, b: usize)
-    requires nb_value { (b < flow.now.blocks.count) × Room flow.now s.old × (0 < flow.now.words → Linked flow.now.blocks.bounds.now s.old flow.now.words flow.now.blocks.count) }
+    requires nb_value { (b < flow.now.blocks.count) × Room flow.now s.old × Linked flow.now.blocks.bounds.now s.old flow.now.words flow.now.blocks.count }
     ensures { Outside s.old s.new (out_row flow.now) flow.now.words
         × ((t : ℕ → Bool) (cs : List ℕ) (q : ℕ) → q < 64 * flow.now.words → cell s.new (out_row flow.now) q
         ≡ out (tested flow.now t cs) (live_at s.old flow.now.words flow.now.blocks.count q) b || cell s.old (out_row flow.now) q) }
@@ -95,9 +95,6 @@ fn leave(s: &mut [u64], flow: &Flow, b: usize)
         ..
     } = *flow;
     let nb = blocks.count;
-    if words == 0 {
-        return;
-    }
     let stride = 3 * words;
     let at = nb * stride;
     let st = blocks.bounds[2 * b] as usize;
@@ -132,21 +129,33 @@ pub fn gather(s: &mut [u64], flow: &Flow, b: usize)
         ≡ out (tested flow.now t cs) (live_at s.old flow.now.words flow.now.blocks.count q) b) }
 {
     let Flow { blocks, words, .. } = *flow;
+    if words == 0 {
+        return;
+    }
     clear_row(s, blocks.count * (3 * words), words);
     leave(s, flow, b);
 }
 
-// One pass over the blocks, the last first. Whether a live-in row got more.
-fn pass(s: &mut [u64], flow: &Flow) -> bool
+// The block that a pass comes to at turn i: from the last to the first, or the other way round.
+fn block_of_turn(rising: bool, nb: usize, i: usize) -> usize
+    requires { i < nb }
+    ensures { result ≡ turn_of rising nb i }
+{
+    if rising { i } else { nb - 1 - i }
+}
+
+// One pass over the blocks. Whether a live-in row got more.
+fn pass(s: &mut [u64], flow: &Flow, rising: bool) -> bool
     requires nb_value { Room flow.now s.old × Linked flow.now.blocks.bounds.now s.old flow.now.words flow.now.blocks.count }
-    ensures { Pass flow.now.kinds.now flow.now.registers.ends.now flow.now.registers.refs.now flow.now.blocks.bounds.now s.old s.new flow.now.blocks.count flow.now.words 0 result }
+    ensures { Pass flow.now.kinds.now flow.now.registers.ends.now flow.now.registers.refs.now flow.now.blocks.bounds.now s.old s.new flow.now.blocks.count flow.now.words result }
 {
     let Flow { blocks, words, .. } = *flow;
     let nb = blocks.count;
     let stride = 3 * words;
     let at = nb * stride;
     let mut changed = false;
-    for b in (0..nb).rev() {
+    for i in 0..nb {
+        let b = block_of_turn(rising, nb, i);
         gather(s, flow, b);
         let live = b * stride;
         let step = Step {
@@ -164,12 +173,16 @@ fn pass(s: &mut [u64], flow: &Flow) -> bool
     changed
 }
 
-// Passes until nothing changes.
+// Passes until nothing changes. Each goes from the last block to the first, as what is live goes along the code, but every fourth the other way round: it
+// takes along branches back, from one to the next, what would take a pass for each of them.
 fn solve(s: &mut [u64], flow: &Flow)
     requires nb_value { Room flow.now s.old × Linked flow.now.blocks.bounds.now s.old flow.now.words flow.now.blocks.count }
     ensures { Solved flow.now.kinds.now flow.now.registers.ends.now flow.now.registers.refs.now flow.now.blocks.bounds.now s.old s.new flow.now.blocks.count flow.now.words }
 {
-    while pass(s, flow) {}
+    let mut done: u8 = 0;
+    while pass(s, flow, done % 4 == 3) {
+        done = done.wrapping_add(1);
+    }
 }
 
 // The rows of block b, in words that are zero: gen, kill, and the block that it falls through to.

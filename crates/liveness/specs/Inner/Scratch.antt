@@ -1,6 +1,6 @@
 -- What the inner functions ensure of the scratch. Block b has three rows of W words at b * (3 * W): live-in, kill, and one whose first word is the block
 -- that follows in the code. After the rows of the last block come the row in which the live-out of one block is gathered, and a row of zeros.
-use Rattle.std.specs.Prelude.{◌≡◌, ◌⊎◌, Bool, true, false, ◌&&◌, List, [], ◌∷◌, ℕ, ◌+◌, ◌*◌, ◌/◌, ◌%◌, ◌≤◌, ◌<◌, length, get_or, take, ltb, if◌then◌else◌}
+use Rattle.std.specs.Prelude.{◌≡◌, ◌⊎◌, Bool, true, false, ◌&&◌, List, [], ◌∷◌, ℕ, ◌+◌, ◌-◌, ◌*◌, ◌/◌, ◌%◌, ◌≤◌, ◌<◌, length, get_or, take, ltb, if◌then◌else◌}
 use Rattle.word.specs.Bit.{bit}
 use Rattle.word.specs.Lists.{tabulate}
 use Rattle.rows.specs.Inner.Row.{listed}
@@ -55,15 +55,17 @@ pub record Built (t : ℕ → Bool) (ends refs bs cs s s' : List ℕ) (nb W : �
   pub linked : Linked bs s' W nb
   pub rows : (ks : List ℕ) → Rows (seen t ks ends refs bs cs) s' W nb
 
--- a pass from s₀ that has done the blocks from b on and is now at s; `changed` says whether a live-in row got more
-pub record Pass (ks ends refs bs s₀ s : List ℕ) (nb W b : ℕ) (changed : Bool) : Type 0 where
+-- the block of turn i of a pass over nb blocks, which goes from the first to the last or the other way round; and the turn of block i
+abbrev pub turn_of : (rising : Bool) (nb i : ℕ) → ℕ
+turn_of rising nb i = if◌then◌else◌ rising i (nb - 1 - i)
+
+-- a pass from s₀ to s; `changed` says whether a live-in row got more
+pub record Pass (ks ends refs bs s₀ s : List ℕ) (nb W : ℕ) (changed : Bool) : Type 0 where
   pub kept : length s ≡ length s₀
-  pub high : b ≤ nb
   pub linked : Linked bs s W nb
   pub rows : (t : ℕ → Bool) (cs : List ℕ) → Rows (seen t ks ends refs bs cs) s₀ W nb → Rows (seen t ks ends refs bs cs) s W nb
-  pub grown : set_bits (nb * (3 * W)) s₀ ≤ set_bits (nb * (3 * W)) s
-  pub closed : changed ≡ false → (t : ℕ → Bool) (cs : List ℕ) (q c : ℕ) → Rows (seen t ks ends refs bs cs) s₀ W nb → q < 64 * W → b ≤ c → c < nb
-      → into (seen t ks ends refs bs cs) q (live_at s W nb q) c ≡ true → live_at s W nb q c ≡ true
+  pub closed : changed ≡ false → (t : ℕ → Bool) (cs : List ℕ) (q : ℕ) → Rows (seen t ks ends refs bs cs) s₀ W nb → q < 64 * W → (b : ℕ) → b < nb
+      → into (seen t ks ends refs bs cs) q (live_at s W nb q) b ≡ true → live_at s W nb q b ≡ true
   pub more : changed ≡ true → set_bits (nb * (3 * W)) s₀ < set_bits (nb * (3 * W)) s
 
 -- no pass adds anything any more

@@ -14,9 +14,6 @@ use Rattle.code.proofs.Plans.{part-slice}
 use Rattle.liveness.proofs.fixpoint.leave.Goals as goal
 use Rattle.liveness.proofs.fixpoint.leave.Goals.{then-k-ge2+else-k-le4+else-k-le6, else-k-ge2}
 
-pub returns-then-words-eq0 : goal.returns-then-words-eq0
-returns-then-words-eq0 c = (outside_refl _ _ _, λ t cs q h. absurd (omega (arith, c.if-words-eq0.true)))
-
 pub returns-then-e-st : goal.returns-then-e-st
 returns-then-e-st c = (outside_refl _ _ _, λ t cs q h. sym (ap (λ (x : Bool). x || cell c.args.s.now (c.args.flow.now.blocks.count * (3 * c.args.flow.now.words)) q) (leave_none c.args.flow.now.columns t cs c.args.flow.now.blocks.count c.args.b _ _ c.args.flow.now.counted c.requires.nb_value.0 refl refl (live_at c.args.s.now c.args.flow.now.words c.args.flow.now.blocks.count q) c.if-e-st.true)))
 
@@ -63,7 +60,7 @@ pub returns-then-k-le6 : goal.returns-then-k-le6
 returns-then-k-le6 c = (outside_refl _ _ _, λ t cs q h. sym (ap (λ (x : Bool). x || cell c.args.s.now (c.args.flow.now.blocks.count * (3 * c.args.flow.now.words)) q) (leave-stop c.args.flow.now.columns t cs c.args.flow.now.blocks.count c.args.b _ _ c.args.flow.now.counted c.requires.nb_value.0 refl refl (live_at c.args.s.now c.args.flow.now.words c.args.flow.now.blocks.count q) c.if-e-st.false c.if-k-le4.false c.if-k-le6.true)))
 
 pub returns-then-t-nb : goal.returns-then-t-nb
-returns-then-t-nb c = (c.join.ensures.0, λ t cs q h. c.join.ensures.1 q h ∙ sym (ap (λ (x : Bool). x || cell c.args.s.now (c.args.flow.now.blocks.count * (3 * c.args.flow.now.words)) q) (leave-next c.args.flow.now.columns t cs c.args.flow.now.blocks.count c.args.b _ _ c.args.flow.now.counted c.requires.nb_value.0 refl refl (live_at c.args.s.now c.args.flow.now.words c.args.flow.now.blocks.count q) c.if-e-st.false (elim c.if-k-ge2.branch [ then-k-ge2+else-k-le4+else-k-le6 w ↦ inr w.if-k-le6.false | else-k-ge2 w ↦ inl w.if-k-ge2.false ]) _ (linked-next (c.requires.nb_value.2 (omega (arith, c.if-words-eq0.false))) c.args.b _ _ _ c.requires.nb_value.0 refl refl c.if-e-st.false refl) ∙ joined-one c.args.s.now c.args.flow.now.words c.args.flow.now.blocks.count q _ c.if-t-nb.true)))
+returns-then-t-nb c = (c.join.ensures.0, λ t cs q h. c.join.ensures.1 q h ∙ sym (ap (λ (x : Bool). x || cell c.args.s.now (c.args.flow.now.blocks.count * (3 * c.args.flow.now.words)) q) (leave-next c.args.flow.now.columns t cs c.args.flow.now.blocks.count c.args.b _ _ c.args.flow.now.counted c.requires.nb_value.0 refl refl (live_at c.args.s.now c.args.flow.now.words c.args.flow.now.blocks.count q) c.if-e-st.false (elim c.if-k-ge2.branch [ then-k-ge2+else-k-le4+else-k-le6 w ↦ inr w.if-k-le6.false | else-k-ge2 w ↦ inl w.if-k-ge2.false ]) _ (linked-next c.requires.nb_value.2 c.args.b _ _ _ c.requires.nb_value.0 refl refl c.if-e-st.false refl) ∙ joined-one c.args.s.now c.args.flow.now.words c.args.flow.now.blocks.count q _ c.if-t-nb.true)))
 
 pub returns-else-t-nb : goal.returns-else-t-nb
-returns-else-t-nb c = (outside_refl _ _ _, λ t cs q h. sym (ap (λ (x : Bool). x || cell c.args.s.now (c.args.flow.now.blocks.count * (3 * c.args.flow.now.words)) q) (leave-next c.args.flow.now.columns t cs c.args.flow.now.blocks.count c.args.b _ _ c.args.flow.now.counted c.requires.nb_value.0 refl refl (live_at c.args.s.now c.args.flow.now.words c.args.flow.now.blocks.count q) c.if-e-st.false (elim c.if-k-ge2.branch [ then-k-ge2+else-k-le4+else-k-le6 w ↦ inr w.if-k-le6.false | else-k-ge2 w ↦ inl w.if-k-ge2.false ]) _ (linked-next (c.requires.nb_value.2 (omega (arith, c.if-words-eq0.false))) c.args.b _ _ _ c.requires.nb_value.0 refl refl c.if-e-st.false refl) ∙ joined-none (live_at c.args.s.now c.args.flow.now.words c.args.flow.now.blocks.count q) c.args.flow.now.blocks.count _ c.if-t-nb.false)))
+returns-else-t-nb c = (outside_refl _ _ _, λ t cs q h. sym (ap (λ (x : Bool). x || cell c.args.s.now (c.args.flow.now.blocks.count * (3 * c.args.flow.now.words)) q) (leave-next c.args.flow.now.columns t cs c.args.flow.now.blocks.count c.args.b _ _ c.args.flow.now.counted c.requires.nb_value.0 refl refl (live_at c.args.s.now c.args.flow.now.words c.args.flow.now.blocks.count q) c.if-e-st.false (elim c.if-k-ge2.branch [ then-k-ge2+else-k-le4+else-k-le6 w ↦ inr w.if-k-le6.false | else-k-ge2 w ↦ inl w.if-k-ge2.false ]) _ (linked-next c.requires.nb_value.2 c.args.b _ _ _ c.requires.nb_value.0 refl refl c.if-e-st.false refl) ∙ joined-none (live_at c.args.s.now c.args.flow.now.words c.args.flow.now.blocks.count q) c.args.flow.now.blocks.count _ c.if-t-nb.false)))
