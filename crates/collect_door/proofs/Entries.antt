@@ -18,7 +18,6 @@ use Rattle.heap.specs.Inner.Tells.{Tells}
 use Rattle.heap.proofs.Testing.{formed-tested}
 use Rattle.addresses.specs.Listed.{paired}
 use Rattle.flow.specs.Function.{safepoint}
-use Rattle.roots.specs.Calls.{Lent as Code, function, right, need}
 use Rattle.collect.specs.Collect.{collecting}
 use Rattle.collect.specs.Inner.Safepoint.{at_safepoint, CanLook}
 use Rattle.door.specs.HeapCalls.{Test, test, admitted, enough, zeros, scratch_after, outcome, outcome_of, Entry, ready}
@@ -29,6 +28,7 @@ use Rattle.collect_door.specs.Demand.{RightlyCollected, Demand}
 use Rattle.collect_door.proofs.Theorem.{collect-rightly, demand}
 use Rattle.word.specs.Lists.{rising}
 use Rattle.mark.specs.Inner.Scratch.{CanMark}
+use Rattle.code.specs.Lent.{Lent as Code, function, right, need}
 use lib.ListN.{length}
 use lib.Dec.{leb, eqb}
 use borrow.Author.Tests.{le-leb, leb-true, eq-eqb, ne_eqb, eqb-true}

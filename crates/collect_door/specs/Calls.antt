@@ -13,13 +13,13 @@ use Rattle.heap.specs.Lent.{Lent}
 use Rattle.heap.specs.WellFormed.{well_formed}
 use Rattle.heap.specs.Calls.{Changed}
 use Rattle.flow.specs.Function.{safepoint}
-use Rattle.roots.specs.Calls.{Lent as Code, function, right, need}
 use Rattle.addresses.specs.Listed.{paired}
 use Rattle.collection.specs.Joined.{joined}
 use Rattle.collection.specs.JoinedDemand.{Pinning}
 use Rattle.collect.specs.Collect.{collecting}
 use Rattle.door.specs.HeapCalls.{Test, test, enough, heap_tests, Outcome, calling}
 use Rattle.word.specs.Lists.{rising}
+use Rattle.code.specs.Lent.{Lent as Code, function, right, need}
 
 -- ---- collect: 18, 1, 10, 14, then 13
 

@@ -1,21 +1,21 @@
 // The joined collection as a host calls it: all is tested, then the heap is collected from the frame and the registers that are live at the safepoint.
 ghost use Rattle.std.specs.Prelude.{◌≡◌, [], ◌∷◌, ◌++◌, ◌+◌, ◌/◌};
 ghost use Rattle.heap.specs.Lent.{lent};
-ghost use Rattle.roots.specs.Calls.{need};
-ghost use Rattle.roots.specs.Inner.Plans.{lent as code_lent};
 ghost use Rattle.door.specs.HeapCalls.{admitted, outcome_of};
 ghost use Rattle.door.specs.Inner.Entered.{Entered};
 ghost use Rattle.collect_door.specs.Calls.{row_tests, input_tests, joined_call};
 ghost use Rattle.collect_door.specs.Demand.{Demand};
+ghost use Rattle.code.specs.Lent.{need};
+ghost use Rattle.code.specs.Inner.Plans.{lent as code_lent};
 
 use addresses::Pairs;
+use code::Code;
+use code::check::{check_function, rows_fit};
 use collect::joined::{Safepoint, collect_at};
 use door::Done;
 use heap::Heap;
 use heap::view_mut::ViewMut;
 use refusal::{Answer, Refusal};
-use roots::Code;
-use roots::check::{check_function, rows_fit};
 use ty::Table;
 use ty_check::check_table;
 

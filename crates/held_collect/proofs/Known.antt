@@ -11,7 +11,6 @@ use Rattle.heap.specs.Lent.{Lent, view, slot_count}
 use Rattle.heap.specs.WellFormed.{well_formed}
 use Rattle.heap.specs.Inner.Tells.{Tells}
 use Rattle.heap.specs.declared.Heap.{Heap}
-use Rattle.roots.specs.Calls.{function, need}
 use Rattle.collect.specs.Collect.{collecting}
 use Rattle.collect.specs.Inner.Safepoint.{at_safepoint}
 use Rattle.door.specs.HeapCalls.{Test, test, Entry, ready, admitted, enough, zeros, outcome, outcome_of}
@@ -22,6 +21,7 @@ use Rattle.collect_door.specs.Demand.{RightlyCollected, Demand}
 use Rattle.collect_door.proofs.Entries.{Admitted, collect-done, join-done}
 use Rattle.held.proofs.Holding.{headed, moved}
 use Rattle.held_collect.specs.Inner.Scratch.{fits, fits_rows}
+use Rattle.code.specs.Lent.{function, need}
 
 -- ---- scratch: a and b, there is enough of it
 

@@ -1,22 +1,22 @@
 // The joined collection on a heap that is known to be well formed.
 ghost use Rattle.std.specs.Prelude.{◌≡◌, true, [], ◌∷◌, ◌/◌, length};
 ghost use Rattle.heap.specs.WellFormed.{well_formed};
-ghost use Rattle.roots.specs.Calls.{need};
-ghost use Rattle.roots.specs.Inner.Plans.{lent as code_lent};
 ghost use Rattle.door.specs.HeapCalls.{outcome_of};
 ghost use Rattle.door.specs.Inner.Entered.{Entered};
 ghost use Rattle.collect_door.specs.Calls.{input_tests, joined_call};
 ghost use Rattle.collect_door.specs.Demand.{Demand};
 ghost use Rattle.held.specs.Held.{in_place};
 ghost use Rattle.held_collect.specs.Inner.Scratch.{fits_rows};
+ghost use Rattle.code.specs.Lent.{need};
+ghost use Rattle.code.specs.Inner.Plans.{lent as code_lent};
 
 use addresses::Pairs;
+use code::Code;
+use code::check::rows_fit;
 use collect::joined::{Safepoint, collect_at};
 use collect_door::joined::admit_inputs;
 use heap::view_mut::ViewMut;
 use refusal::{Answer, Refusal};
-use roots::Code;
-use roots::check::rows_fit;
 use ty::Table;
 
 // Do scratch and all inputs let the collection look for the safepoint? Then scratch is zero.

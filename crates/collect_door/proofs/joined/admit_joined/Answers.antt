@@ -1,6 +1,6 @@
 -- `collect_door::joined::admit_joined` meets its contract.
 use Rattle.std.proofs.lemmas.Result.{err_from_is_err_and}
-use Rattle.roots.specs.Inner.Plans.{lent as lent_code}
+use Rattle.code.specs.Inner.Plans.{lent as lent_code}
 use Rattle.collect_door.proofs.Entries.{inputs-not, inputs-entered}
 use Rattle.collect_door.proofs.joined.admit_joined.Goals as goal
 

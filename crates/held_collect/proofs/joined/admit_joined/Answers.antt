@@ -1,6 +1,6 @@
 -- `held_collect::joined::admit_joined` meets its contract.
 use Rattle.std.proofs.Common.{refl, [], ◌∷◌}
-use Rattle.roots.specs.Inner.Plans.{lent as lent_code}
+use Rattle.code.specs.Inner.Plans.{lent as lent_code}
 use Rattle.collect_door.proofs.Entries.{by-leb, inputs-entered}
 use Rattle.held_collect.proofs.Known.{too-few, too-few-rows, rows-cleared}
 use Rattle.held_collect.proofs.joined.admit_joined.Goals as goal

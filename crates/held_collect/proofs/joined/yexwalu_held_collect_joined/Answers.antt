@@ -3,13 +3,13 @@ use Rattle.std.proofs.Common.{refl, rules}
 use Rattle.refusal.specs.Told.{nothing}
 use Rattle.heap.specs.Lent.{Lent, lent, view}
 use Rattle.heap.specs.Inner.Tells.{Tells}
-use Rattle.roots.specs.Calls.{function}
 use Rattle.collect.specs.Inner.Safepoint.{at_safepoint}
 use Rattle.collect_door.specs.Calls.{Asked, table, frame, pinning}
 use Rattle.held.specs.Held.{in_place}
 use Rattle.held.proofs.Holding.{formed}
 use Rattle.collect_door.proofs.Entries.{can-join, join-refused}
 use Rattle.held_collect.proofs.Known.{asked-known, joined-in-place}
+use Rattle.code.specs.Lent.{function}
 use Rattle.held_collect.proofs.joined.yexwalu_held_collect_joined.Goals as goal
 
 pub invariant_of-lent : goal.invariant_of-lent
