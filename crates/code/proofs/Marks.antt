@@ -8,7 +8,6 @@ use Rattle.word.specs.Inner.Bit.{bit}
 use Rattle.word.proofs.BitLaws.{bit-of-zero}
 use Rattle.word.proofs.Bools.{or_cases, or_left, or_right}
 use Rattle.rows.specs.Inner.Row.{bit_in}
-use Rattle.roots.proofs.Passes.{zeros-at}
 use Rattle.word.proofs.ListLaws.{get_or-zeros}
 use Rattle.code.specs.Inner.Columns.{In, Marked, Separate}
 use Rattle.code.proofs.Checks.{ClearBelow, apart_of, clear-below}
