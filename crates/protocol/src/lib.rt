@@ -10,7 +10,7 @@ use std::alloc::{AllocError, AllocFailed};
 use std::io;
 
 /// Why a line is not answered as its command says.
-#[derive(Debug, Drop)]
+#[derive(Drop)]
 pub enum Fault {
     /// It can't be read, or finds no room.
     Bad,
@@ -42,7 +42,7 @@ impl<T: Drop> From<AllocFailed<T>> for Fault {
 }
 
 /// No command has this name.
-#[derive(Clone, Copy, Debug)]
+#[derive(Clone, Copy)]
 pub struct NoCommand;
 
 // Where the first `b` stands.

@@ -12,7 +12,7 @@ use replay_kept::{Kept, settle};
 use std::str::FromStr;
 use yexwalu::heaps;
 
-#[derive(Clone, Copy, Debug, PartialEq, Eq)]
+#[derive(Clone, Copy)]
 pub enum Change {
     Reissue,
     Recycle,

@@ -29,7 +29,7 @@ pub struct Function {
 }
 
 /// The commands that make a function.
-#[derive(Clone, Copy, Debug, PartialEq, Eq)]
+#[derive(Clone, Copy)]
 pub enum Command {
     Function,
     Instruction,

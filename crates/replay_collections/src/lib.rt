@@ -14,7 +14,7 @@ use replay_kept::{Kept, Scratch};
 use std::str::FromStr;
 use yexwalu::heaps;
 
-#[derive(Clone, Copy, Debug, PartialEq, Eq)]
+#[derive(Clone, Copy)]
 pub enum Collection {
     Plain,
     Joined,

@@ -26,7 +26,7 @@ pub struct Table {
 }
 
 /// The commands that make a table.
-#[derive(Clone, Copy, Debug, PartialEq, Eq)]
+#[derive(Clone, Copy)]
 pub enum Command {
     Table,
     Type,

@@ -9,7 +9,7 @@ use std::io;
 use std::str::FromStr;
 use yexwalu::live;
 
-#[derive(Clone, Copy, Debug, PartialEq, Eq)]
+#[derive(Clone, Copy)]
 pub enum Question {
     Live,
     LiveAt,

@@ -13,7 +13,7 @@ use std::io;
 use std::str::FromStr;
 use yexwalu::heaps;
 
-#[derive(Clone, Copy, Debug, PartialEq, Eq)]
+#[derive(Clone, Copy)]
 pub enum Change {
     Alloc,
     Fill,

@@ -14,7 +14,7 @@ use std::str::FromStr;
 use std::{io, mem};
 use yexwalu::heaps;
 
-#[derive(Clone, Copy, Debug, PartialEq, Eq)]
+#[derive(Clone, Copy)]
 pub enum Command {
     Swap,
     Same,

@@ -11,7 +11,7 @@ use std::io;
 use std::str::FromStr;
 use yexwalu::{handles, heaps};
 
-#[derive(Clone, Copy, Debug, PartialEq, Eq)]
+#[derive(Clone, Copy)]
 pub enum Question {
     Handles,
     RootsFor,

@@ -10,7 +10,7 @@ use std::io;
 use std::str::FromStr;
 use yexwalu::handles;
 
-#[derive(Clone, Copy, Debug, PartialEq, Eq)]
+#[derive(Clone, Copy)]
 pub enum Question {
     DescSize,
     HasHandles,
