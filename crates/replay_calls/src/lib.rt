@@ -2,7 +2,7 @@
 #![tactic(auto)]
 
 use answers::{Hex, List, front, put_answer, put_told};
-use protocol::fields::Fields;
+use fields::Fields;
 use protocol::{Fault, NoCommand};
 use refusal::Answer;
 use replay_kept::{Kept, ask};

@@ -4,8 +4,8 @@
 ghost use Rattle.std.specs.Prelude.{◌≡◌, [], IfErr};
 ghost use Rattle.protocol.specs.declared.Fault.TheVariants.{Bad};
 
-use protocol::fields::{BYTE, Fields};
-use protocol::{Fault, NoCommand};
+use fields::Fields;
+use protocol::{BYTE, Fault, NoCommand};
 use std::alloc::Global;
 use std::str::FromStr;
 

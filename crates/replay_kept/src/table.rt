@@ -2,8 +2,8 @@
 ghost use Rattle.std.specs.Prelude.{◌≡◌, [], IfErr};
 ghost use Rattle.protocol.specs.declared.Fault.TheVariants.{Bad};
 
-use protocol::fields::{Fields, HALF};
-use protocol::{Fault, NoCommand};
+use fields::Fields;
+use protocol::{Fault, HALF, NoCommand};
 use std::alloc::Global;
 use std::str::FromStr;
 

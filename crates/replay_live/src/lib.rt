@@ -2,8 +2,8 @@
 #![tactic(auto)]
 
 use answers::{List, front, put_told};
-use protocol::fields::{BYTE, Fields, HALF};
-use protocol::{Fault, NoCommand};
+use fields::Fields;
+use protocol::{BYTE, Fault, HALF, NoCommand};
 use replay_code::Function;
 use std::io;
 use std::str::FromStr;

@@ -2,8 +2,8 @@
 #![tactic(auto)]
 
 use answers::{List, front, put_answer, put_told};
-use protocol::fields::{Fields, HALF};
-use protocol::{Fault, NoCommand};
+use fields::Fields;
+use protocol::{Fault, HALF, NoCommand};
 use refusal::Answer;
 use replay_kept::table::Table;
 use std::io;
