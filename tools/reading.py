@@ -15,7 +15,7 @@ import sys
 
 PAGE = "docs/READING.md"
 IMPORTS = ("use ", "pub use ", "pub mod ", "mod ")
-# Calls that requests brought: the page says apart what the others rest on.
+# Calls that requests brought, also without a check: the page says apart what the others rest on.
 REQUESTED = "rehearse roots_for same order read_table write_table slot_handles traceable".split()
 TOKEN = re.compile(r"[^\s(){}\[\],;]+")
 
@@ -161,7 +161,7 @@ class Book:
                 for line in re.findall(r"^ghost use ([^;]+);", text, re.M):
                     scope.update(brought(line))
                 for name, call in re.findall(r"^pub fn yexwalu_(\w+)(.*?)^\{", text, re.M | re.S):
-                    if name not in without:
+                    if name.removeprefix("held_") not in without:
                         out |= self.named(call, scope, {})
         return out
 

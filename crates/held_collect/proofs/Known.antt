@@ -45,11 +45,11 @@ module _ {scratch scratch' : List (List ℕ)} (a : Bool) {p : Bool} (v : p ≡ a
     unfolding admitted
     cleared = record { found = passes a Scratch [] (sym v ∙ t) refl; left = z }
 
-    module _ {p : Bool} {pins : List ℕ} (e : p ≡ rising pins) where
-      pub no_pins : p ≡ false → Entered scratch (test a Scratch ∷ test (rising pins) Pins ∷ []) (Err Pins) scratch'
+    module _ {q : Bool} {pins : List ℕ} (e : q ≡ rising pins) where
+      pub no_pins : q ≡ false → Entered scratch (test a Scratch ∷ test (rising pins) Pins ∷ []) (Err Pins) scratch'
       no_pins f = and-fails cleared {why = Pins} refl (sym e ∙ f) refl
 
-      pub pins-rise : p ≡ true → Entered scratch (test a Scratch ∷ test (rising pins) Pins ∷ []) ready scratch'
+      pub pins-rise : q ≡ true → Entered scratch (test a Scratch ∷ test (rising pins) Pins ∷ []) ready scratch'
       pins-rise f = and-holds cleared Pins refl (sym e ∙ f)
 
   pub rows-cleared : (b : Bool) {q : Bool} → q ≡ b → q ≡ true → scratch' ≡ map zeros scratch → Entered scratch (test (a && b) Scratch ∷ []) ready scratch'

@@ -60,8 +60,8 @@ module _ (T : Table) (g h : State) (rs ss : List ℕ) (number : Ordering → ℕ
 -- ---- the calls
 
 -- what is made zero, after a call that leaves its length
-pub zeros-of : {m m' m'' : List ℕ} → m'' ≡ zeros m' → length m' ≡ length m → m'' ≡ zeros m
-zeros-of e k = e ∙ ap (λ (n : ℕ). replicate n 0) k
+pub zeros-of : (m m' : List ℕ) {m'' : List ℕ} → m'' ≡ zeros m' → length m' ≡ length m → m'' ≡ zeros m
+zeros-of m m' e k = e ∙ ap (λ (n : ℕ). replicate n 0) k
 
 module _ (w : Words) (s t : Save) {e : Entry} {m' w' om' ow' : List ℕ} (x : Entered (scratch_of s t) (save_tests w s t) e (m' ∷ w' ∷ om' ∷ ow' ∷ [])) where
   abbrev question : State → Result Ordering
