@@ -17,7 +17,7 @@ mod sealed {
     }
 }
 
-pub(crate) use sealed::Traces;
+use sealed::Traces;
 
 /// A type table that calls on a heap go by: a [`CheckedTable`], or a [`TypeTable`], which is checked as a whole by each call, and so for each object where objects are traced one by one. Both say the same. No other type has it.
 ///
@@ -33,13 +33,13 @@ pub(crate) use sealed::Traces;
 /// assert_eq!((count(&heap, &table)?, count(&heap, &table.checked()?)?), (1, 1));
 /// # Ok::<(), Refusal>(())
 /// ```
-pub trait AnyTable: sealed::Traces {}
+pub trait AnyTable: Traces {}
 
 impl AnyTable for TypeTable {}
 
 impl AnyTable for CheckedTable {}
 
-impl sealed::Traces for TypeTable {
+impl Traces for TypeTable {
     fn trace(&self, ty: TypeId, data: &[u8]) -> Result<Vec<Handle>, Refusal> {
         self.object_handles(ty, data)
     }
@@ -54,7 +54,7 @@ impl sealed::Traces for TypeTable {
     }
 }
 
-impl sealed::Traces for CheckedTable {
+impl Traces for CheckedTable {
     fn trace(&self, ty: TypeId, data: &[u8]) -> Result<Vec<Handle>, Refusal> {
         self.object_handles(ty, data)
     }

@@ -1,6 +1,5 @@
 use crate::ffi::{self, Done, Header};
 use crate::held::{self, Parts};
-use crate::checked::Traces;
 use crate::{AnyTable, FrameSlot, Function, Handle, Refusal, Slot, TypeId, TypeTable};
 use std::cell::{Cell, RefCell};
 use std::cmp::Ordering;

@@ -137,7 +137,7 @@ fn draw(random: &mut Random, heap: &Heap, handles: &[Handle]) -> Call {
         _ if handles.is_empty() => Handle(1 << 56 | 1),
         _ => handles[random.below(handles.len() as u64) as usize],
     };
-    let mut some = |n: u64, random: &mut Random| {
+    let some = |n: u64, random: &mut Random| {
         let mut list: Vec<Slot> = (0..n).map(|_| Slot(random.below(slots + 3) as u32)).collect();
         if random.below(3) > 0 {
             list.sort_unstable();

@@ -45,7 +45,7 @@ module _ {scratch scratch' : List (List ℕ)} (a : Bool) {p : Bool} (v : p ≡ a
     unfolding admitted
     cleared = record { found = passes a Scratch [] (sym v ∙ t) refl; left = z }
 
-    module _ {q : Bool} {pins : List ℕ} (e : q ≡ rising pins) where
+    module _ (pins : List ℕ) {q : Bool} (e : q ≡ rising pins) where
       pub no_pins : q ≡ false → Entered scratch (test a Scratch ∷ test (rising pins) Pins ∷ []) (Err Pins) scratch'
       no_pins f = and-fails cleared {why = Pins} refl (sym e ∙ f) refl
 

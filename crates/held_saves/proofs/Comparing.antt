@@ -1,10 +1,8 @@
 -- What the tests find on two heaps that are known to be well formed, with a type table that is known to be in order. Assumes nothing.
 use mathlib.Core.Path.{◌≡◌, refl, sym, ◌∙◌, subst}
-use mathlib.Core.Bool.{Bool, true, false, ◌&&◌}
+use mathlib.Core.Bool.{Bool, true, false}
 use mathlib.Core.List.{List, [], ◌∷◌, map}
 use Prim.Native.Nat.{ℕ}
-use lib.ListN.{length}
-use lib.Dec.{leb}
 use Rattle.std.specs.Prelude.{Err, Result as Told}
 use Rattle.std.specs.declared.cmp.Ordering.{Ordering}
 use Rattle.refusal.specs.declared.Refusal.{Refusal}
@@ -51,8 +49,8 @@ module _ (w : Words) (s t : Save) (known : well_formed s.heap ≡ true) (other-k
 
 -- ---- the heaps in place
 
-pub compared-in-place : {w : Words} {k k' l l' : Lent} (roots roots' m o m' o' : List ℕ) {found : Told Ordering Refusal} {scratch : List (List ℕ)} → k ≡ l → k' ≡ l'
+pub compared-in-place : (w : Words) {k k' l l' : Lent} (roots roots' m o m' o' : List ℕ) (found : Told Ordering Refusal) {scratch : List (List ℕ)} → k ≡ l → k' ≡ l'
     → Compares w (save_of k roots m o) (save_of k' roots' m' o') found scratch → Compares w (save_of l roots m o) (save_of l' roots' m' o') found scratch
-compared-in-place {w} {k} {k'} {l} {l'} roots roots' m o m' o' {found} {scratch} p q d =
+compared-in-place w {k} {k'} {l} {l'} roots roots' m o m' o' found {scratch} p q d =
     subst (λ (z : Lent). Compares w (save_of z roots m o) (save_of l' roots' m' o') found scratch) p
     (subst (λ (z : Lent). Compares w (save_of k roots m o) (save_of z roots' m' o') found scratch) q d)

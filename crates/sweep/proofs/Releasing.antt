@@ -13,7 +13,7 @@ use Rattle.word.proofs.RunLaws.{run-get, first-get}
 use Rattle.heap.specs.Packing.{pad}
 use Rattle.heap.specs.State.{Slot, State, slot_at, live, last_generation, worn, bit, with_free, with_retired}
 use Rattle.heap.specs.Calls.{step, changed, release, released}
-use Rattle.heap.specs.Lent.{Lent, columns, column, cut, lent, header_of, stored, view, slot_count, pool_size}
+use Rattle.heap.specs.Lent.{Lent, columns, cut, lent, header_of, stored, view, slot_count, pool_size}
 use Rattle.heap.specs.Header.{set_free, set_retired, set_slots, set_changed}
 use Rattle.heap.specs.declared.Heap.{Heap}
 use Rattle.heap.proofs.Sound.{Sound, WellFormed, live_bit}
