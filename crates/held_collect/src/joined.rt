@@ -127,9 +127,7 @@ pub fn yexwalu_held_collect_joined(
         consts,
         bytes,
     };
-    match admit_joined(
-        narrow, &code, values, pins, addresses, marks, work, rows,
-    ) {
+    match admit_joined(narrow, &code, values, pins, addresses, marks, work, rows) {
         Err(why) => Answer::from(Err(why)),
         Ok(()) => {
             let at = Safepoint {

@@ -71,15 +71,7 @@ fn compare_known(
         other_marks,
         other_work,
     )?;
-    same_door::order_saves(
-        table,
-        here,
-        there,
-        marks,
-        work,
-        other_marks,
-        other_work,
-    )
+    same_door::order_saves(table, here, there, marks, work, other_marks, other_work)
 }
 
 // Are two heaps the same model, as `yexwalu_same` finds? 18, 13. First: 1 yes, 0 no.
@@ -116,16 +108,12 @@ pub fn yexwalu_held_same(
     ensures other_work_after { asked_of result (marks.new ∷ work.new ∷ other_marks.new ∷ other_work.new ∷ [])
         ≡ same_call
         (words_of types.now fields.now consts.now bytes.now)
-        (save_of (in_place tag.now numbers.now log.now lengths.now narrow.now wide.now pool.now)
-        roots.now marks.old work.old)
-        (save_of (in_place other_tag.now other_numbers.now other_log.now other_lengths.now other_narrow.now other_wide.now other_pool.now)
-        other_roots.now other_marks.old other_work.old) }
+        (save_of (in_place tag.now numbers.now log.now lengths.now narrow.now wide.now pool.now) roots.now marks.old work.old)
+        (save_of (in_place other_tag.now other_numbers.now other_log.now other_lengths.now other_narrow.now other_wide.now other_pool.now) other_roots.now other_marks.old other_work.old) }
     ensures right_same { RightSame
         (words_of types.now fields.now consts.now bytes.now)
-        (save_of (in_place tag.now numbers.now log.now lengths.now narrow.now wide.now pool.now)
-        roots.now marks.old work.old)
-        (save_of (in_place other_tag.now other_numbers.now other_log.now other_lengths.now other_narrow.now other_wide.now other_pool.now)
-        other_roots.now other_marks.old other_work.old) result }
+        (save_of (in_place tag.now numbers.now log.now lengths.now narrow.now wide.now pool.now) roots.now marks.old work.old)
+        (save_of (in_place other_tag.now other_numbers.now other_log.now other_lengths.now other_narrow.now other_wide.now other_pool.now) other_roots.now other_marks.old other_work.old) result }
 {
     let table = Table {
         types,
@@ -148,15 +136,7 @@ pub fn yexwalu_held_same(
         view: other,
         roots: other_roots,
     };
-    let found = compare_known(
-        &table,
-        here,
-        there,
-        marks,
-        work,
-        other_marks,
-        other_work,
-    );
+    let found = compare_known(&table, here, there, marks, work, other_marks, other_work);
     Answer::from(found.map(same_door::same_values))
 }
 
@@ -194,16 +174,12 @@ pub fn yexwalu_held_order(
     ensures other_work_after { asked_of result (marks.new ∷ work.new ∷ other_marks.new ∷ other_work.new ∷ [])
         ≡ order_call
         (words_of types.now fields.now consts.now bytes.now)
-        (save_of (in_place tag.now numbers.now log.now lengths.now narrow.now wide.now pool.now)
-        roots.now marks.old work.old)
-        (save_of (in_place other_tag.now other_numbers.now other_log.now other_lengths.now other_narrow.now other_wide.now other_pool.now)
-        other_roots.now other_marks.old other_work.old) }
+        (save_of (in_place tag.now numbers.now log.now lengths.now narrow.now wide.now pool.now) roots.now marks.old work.old)
+        (save_of (in_place other_tag.now other_numbers.now other_log.now other_lengths.now other_narrow.now other_wide.now other_pool.now) other_roots.now other_marks.old other_work.old) }
     ensures right_order { RightOrder
         (words_of types.now fields.now consts.now bytes.now)
-        (save_of (in_place tag.now numbers.now log.now lengths.now narrow.now wide.now pool.now)
-        roots.now marks.old work.old)
-        (save_of (in_place other_tag.now other_numbers.now other_log.now other_lengths.now other_narrow.now other_wide.now other_pool.now)
-        other_roots.now other_marks.old other_work.old) result }
+        (save_of (in_place tag.now numbers.now log.now lengths.now narrow.now wide.now pool.now) roots.now marks.old work.old)
+        (save_of (in_place other_tag.now other_numbers.now other_log.now other_lengths.now other_narrow.now other_wide.now other_pool.now) other_roots.now other_marks.old other_work.old) result }
 {
     let table = Table {
         types,
@@ -226,14 +202,6 @@ pub fn yexwalu_held_order(
         view: other,
         roots: other_roots,
     };
-    let found = compare_known(
-        &table,
-        here,
-        there,
-        marks,
-        work,
-        other_marks,
-        other_work,
-    );
+    let found = compare_known(&table, here, there, marks, work, other_marks, other_work);
     Answer::from(found.map(same_door::order_values))
 }

@@ -141,15 +141,7 @@ fn compare_saves(
         view: views.1,
         roots: other.roots,
     };
-    order_saves(
-        table,
-        here,
-        there,
-        marks,
-        work,
-        other_marks,
-        other_work,
-    )
+    order_saves(table, here, there, marks, work, other_marks, other_work)
 }
 
 // Kept: one number of an order for each call, so no conversion of Ordering itself.

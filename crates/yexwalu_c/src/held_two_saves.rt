@@ -42,16 +42,12 @@ pub extern "C" fn yexwalu_held_same(
     ensures other_work_after { asked_of result (marks.new ∷ work.new ∷ other_marks.new ∷ other_work.new ∷ [])
         ≡ same_call
         (words_of types.now fields.now consts.now bytes.now)
-        (save_of (in_place tag.now numbers.now log.now lengths.now narrow.now wide.now pool.now)
-        roots.now marks.old work.old)
-        (save_of (in_place other_tag.now other_numbers.now other_log.now other_lengths.now other_narrow.now other_wide.now other_pool.now)
-        other_roots.now other_marks.old other_work.old) }
+        (save_of (in_place tag.now numbers.now log.now lengths.now narrow.now wide.now pool.now) roots.now marks.old work.old)
+        (save_of (in_place other_tag.now other_numbers.now other_log.now other_lengths.now other_narrow.now other_wide.now other_pool.now) other_roots.now other_marks.old other_work.old) }
     ensures right_same { RightSame
         (words_of types.now fields.now consts.now bytes.now)
-        (save_of (in_place tag.now numbers.now log.now lengths.now narrow.now wide.now pool.now)
-        roots.now marks.old work.old)
-        (save_of (in_place other_tag.now other_numbers.now other_log.now other_lengths.now other_narrow.now other_wide.now other_pool.now)
-        other_roots.now other_marks.old other_work.old) result }
+        (save_of (in_place tag.now numbers.now log.now lengths.now narrow.now wide.now pool.now) roots.now marks.old work.old)
+        (save_of (in_place other_tag.now other_numbers.now other_log.now other_lengths.now other_narrow.now other_wide.now other_pool.now) other_roots.now other_marks.old other_work.old) result }
 {
     held_saves::yexwalu_held_same(
         types,
@@ -114,16 +110,12 @@ pub extern "C" fn yexwalu_held_order(
     ensures other_work_after { asked_of result (marks.new ∷ work.new ∷ other_marks.new ∷ other_work.new ∷ [])
         ≡ order_call
         (words_of types.now fields.now consts.now bytes.now)
-        (save_of (in_place tag.now numbers.now log.now lengths.now narrow.now wide.now pool.now)
-        roots.now marks.old work.old)
-        (save_of (in_place other_tag.now other_numbers.now other_log.now other_lengths.now other_narrow.now other_wide.now other_pool.now)
-        other_roots.now other_marks.old other_work.old) }
+        (save_of (in_place tag.now numbers.now log.now lengths.now narrow.now wide.now pool.now) roots.now marks.old work.old)
+        (save_of (in_place other_tag.now other_numbers.now other_log.now other_lengths.now other_narrow.now other_wide.now other_pool.now) other_roots.now other_marks.old other_work.old) }
     ensures right_order { RightOrder
         (words_of types.now fields.now consts.now bytes.now)
-        (save_of (in_place tag.now numbers.now log.now lengths.now narrow.now wide.now pool.now)
-        roots.now marks.old work.old)
-        (save_of (in_place other_tag.now other_numbers.now other_log.now other_lengths.now other_narrow.now other_wide.now other_pool.now)
-        other_roots.now other_marks.old other_work.old) result }
+        (save_of (in_place tag.now numbers.now log.now lengths.now narrow.now wide.now pool.now) roots.now marks.old work.old)
+        (save_of (in_place other_tag.now other_numbers.now other_log.now other_lengths.now other_narrow.now other_wide.now other_pool.now) other_roots.now other_marks.old other_work.old) result }
 {
     held_saves::yexwalu_held_order(
         types,

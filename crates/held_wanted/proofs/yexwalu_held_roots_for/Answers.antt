@@ -1,5 +1,5 @@
 -- `held_wanted::yexwalu_held_roots_for` meets its contract.
-use mathlib.Core.Path.{◌≡◌, sym, subst}
+use mathlib.Core.Path.{sym, subst}
 use lib.ListN.{length}
 use Rattle.ty.specs.View.{table_of}
 use Rattle.heap.specs.Lent.{Lent, view}
