@@ -19,7 +19,7 @@ use ty_check::check_table;
 pub mod joined; // at a safepoint, from the frame and the live registers
 
 // Are the type table and the pins as they should be?
-pub fn admit_given(table: &Table, pins: &[u32]) -> Result<(), Refusal>
+fn admit_given(table: &Table, pins: &[u32]) -> Result<(), Refusal>
     ensures { result ≡ admitted (given_tests table.now.types.now table.now.fields.now table.now.consts.now table.now.bytes.now pins.now) }
 {
     if !check_table(table) {

@@ -72,7 +72,7 @@ fn name_roots(tag: u8, narrow: &[u32], wanted: &[u32], work: &[u64], out: &mut [
 }
 
 // The roots of a heap that keep just the wanted slots: 21, 7.
-fn list_roots(
+pub fn list_roots(
     table: &Table,
     view: View,
     pins: &[u32],

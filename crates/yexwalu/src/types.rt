@@ -83,10 +83,7 @@ pub fn yexwalu_desc_size(
     if !check_table(&table) {
         return Answer::from(Err(Refusal::TypeTable));
     }
-    let Some(n) = table.desc_size(t) else {
-        return Answer::from(Err(Refusal::Malformed));
-    };
-    Answer::from(Ok((n, 0)))
+    held_types::tell_size(&table, t)
 }
 
 // Whether values of type t can hold handles: 1 or 0.
