@@ -83,7 +83,7 @@ fn admit_inputs(
     ensures { result ≡ admitted (input_tests table.now.types.now table.now.fields.now table.now.consts.now table.now.bytes.now
         (code_lent code.now) values.now pins.now addresses.now) }
 {
-    if !table.check_table() {
+    if !check_table(table) {
         return Err(Refusal::TypeTable);
     }
     admit_code(code, values, pins, addresses)

@@ -24,7 +24,7 @@ use Rattle.held_collect.specs.Inner.Scratch.{fits, fits_rows}
 use Rattle.code.specs.Lent.{function, need}
 use Rattle.refusal.specs.declared.Refusal.{Refusal}
 use Rattle.ty.specs.Check.{table_good}
-use Rattle.heap_calls.specs.Pins.{rising}
+use Rattle.word.specs.Lists.{rising}
 
 -- ---- scratch: a and b, there is enough of it
 

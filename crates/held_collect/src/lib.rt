@@ -11,7 +11,7 @@ ghost use Rattle.collect_door.specs.Demand.{RightlyCollected};
 ghost use Rattle.held.specs.Held.{in_place};
 ghost use Rattle.held_collect.specs.Inner.Scratch.{fits};
 ghost use Rattle.ty.specs.Check.{table_good};
-ghost use Rattle.heap_calls.specs.Pins.{rising};
+ghost use Rattle.word.specs.Lists.{rising};
 ghost use Rattle.refusal.specs.declared.Refusal.TheVariants.{Pins};
 
 use heap::view_mut::ViewMut;

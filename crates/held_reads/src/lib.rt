@@ -12,7 +12,7 @@ ghost use Rattle.pages.specs.Page.{page_text};
 ghost use Rattle.pages.specs.Answer.{text_answer, text_out};
 ghost use Rattle.held.specs.Held.{in_place};
 ghost use Rattle.ty.specs.View.{table_of};
-ghost use Rattle.trace.specs.Listing.{written_to};
+ghost use Rattle.traced.specs.Listing.{written_to};
 ghost use Rattle.slot_door.specs.SlotHandles.{slot_handles};
 ghost use Rattle.slot_door.specs.Traceable.{misfit, misfit_told};
 

@@ -10,7 +10,8 @@ use Rattle.refusal.specs.declared.Refusal.TheVariants.{BrokenHeap, TypeTable, Sc
 use Rattle.ty.specs.Check.{table_good}
 use Rattle.heap.specs.Lent.{Lent, slot_count}
 use Rattle.heap.specs.WellFormed.{well_formed}
-use Rattle.door.specs.HeapCalls.{test, Entry, ready, admitted, enough, zeros, Entered}
+use Rattle.door.specs.HeapCalls.{test, Entry, ready, admitted, enough, zeros}
+use Rattle.door.specs.Inner.Entered.{Entered}
 use Rattle.door.proofs.Entering.{fails, passes, and-holds, and-more}
 use Rattle.saves.specs.Saves.{Words, Save, save_of, save_tests, scratch_of}
 use Rattle.same_door.specs.Inner.Numbers.{Compares}

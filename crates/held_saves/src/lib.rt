@@ -5,7 +5,8 @@ ghost use Rattle.std.specs.Prelude.{◌≡◌, true, [], ◌∷◌, ◌/◌, len
 ghost use Rattle.ty.specs.Check.{table_good};
 ghost use Rattle.heap.specs.WellFormed.{well_formed};
 ghost use Rattle.heap.specs.Inner.Seen.{seen};
-ghost use Rattle.door.specs.HeapCalls.{Entered, asked_of};
+ghost use Rattle.door.specs.HeapCalls.{asked_of};
+ghost use Rattle.door.specs.Inner.Entered.{Entered};
 ghost use Rattle.saves.specs.Saves.{save_of, words_of, same_call, order_call};
 ghost use Rattle.saves.specs.Right.{RightSame, RightOrder};
 ghost use Rattle.same_door.specs.Inner.Given.{words_in};

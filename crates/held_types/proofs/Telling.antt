@@ -15,10 +15,12 @@ use Rattle.held_types.specs.Laid.{laid, sized}
 use Rattle.held_types.specs.declared.Laying.{Laying}
 use Rattle.refusal.specs.declared.Refusal.TheVariants.{Malformed}
 use Rattle.ty.specs.Check.{table_good}
-use Rattle.ty.specs.Walks.{desc_size, desc_bytes}
+use Rattle.ty.specs.Walks.{desc_bytes}
+use Rattle.ty.specs.DescSize.{desc_size}
 use Rattle.ty.specs.View.{types_of}
-use Rattle.ty.proofs.Sizes.{exact}
-use Rattle.frame.specs.Listing.{Roots, Frames, handles_to, addresses_to}
+use Rattle.ty_check.proofs.Sizes.{exact}
+use Rattle.frame.specs.Listing.{Roots, handles_to, addresses_to}
+use Rattle.frame.specs.Inner.Frames.{Frames}
 use lib.ListN.{length}
 use native.Mathlib.Omega.{arith}
 

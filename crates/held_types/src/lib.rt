@@ -6,7 +6,8 @@ ghost use Rattle.std.specs.Prelude.{◌≡◌, length, true, if◌then◌else◌
 ghost use Rattle.word.specs.Result.{ok};
 ghost use Rattle.refusal.specs.Told.{answered, here, nothing};
 ghost use Rattle.ty.specs.View.{types_of, table_of};
-ghost use Rattle.ty.specs.Walks.{has_handles, desc_bytes, desc_size};
+ghost use Rattle.ty.specs.Walks.{has_handles, desc_bytes};
+ghost use Rattle.ty.specs.DescSize.{desc_size};
 ghost use Rattle.layout.specs.Offsets.{offsets_of, layout_call, written_by};
 ghost use Rattle.trace.specs.Places.{object_handles, value_handles};
 ghost use Rattle.traced.specs.Listing.{listing, written_to};

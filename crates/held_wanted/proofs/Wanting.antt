@@ -7,8 +7,9 @@ use Rattle.refusal.specs.declared.Refusal.TheVariants.{Pins}
 use Rattle.ty.specs.Check.{table_good}
 use Rattle.heap.specs.Lent.{Lent, slot_count}
 use Rattle.heap.specs.WellFormed.{well_formed}
-use Rattle.heap_calls.specs.Pins.{rising}
-use Rattle.door.specs.HeapCalls.{test, Entry, Entered, enough}
+use Rattle.word.specs.Lists.{rising}
+use Rattle.door.specs.HeapCalls.{test, Entry, enough}
+use Rattle.door.specs.Inner.Entered.{Entered}
 use Rattle.wanted_door.specs.RootsFor.{Given, tests}
 use Rattle.held_collect.specs.Inner.Scratch.{fits}
 use Rattle.held_collect.proofs.Known.{with-both}

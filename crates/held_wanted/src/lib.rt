@@ -4,9 +4,10 @@
 ghost use Rattle.std.specs.Prelude.{◌≡◌, true, [], ◌∷◌, ◌/◌, length};
 ghost use Rattle.ty.specs.Check.{table_good};
 ghost use Rattle.heap.specs.WellFormed.{well_formed};
-ghost use Rattle.heap_calls.specs.Pins.{rising};
+ghost use Rattle.word.specs.Lists.{rising};
 ghost use Rattle.refusal.specs.declared.Refusal.TheVariants.{Pins};
-ghost use Rattle.door.specs.HeapCalls.{test, Entered, asked};
+ghost use Rattle.door.specs.HeapCalls.{test, asked};
+ghost use Rattle.door.specs.Inner.Entered.{Entered};
 ghost use Rattle.held_collect.specs.Inner.Scratch.{fits};
 ghost use Rattle.wanted_door.specs.RootsFor.{roots_call, roots_out, RightRoots};
 ghost use Rattle.held.specs.Held.{in_place};

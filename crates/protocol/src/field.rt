@@ -1,6 +1,6 @@
 // What one field of a line spells. The clause `value` of a function says which value that is (specs/Inner/Lines.antt), and `refused` when it is `Bad`: memory that runs out is another fault.
 ghost use Rattle.std.specs.Prelude.{◌≡◌, ◌≢◌, ℕ, List, Option, Some, None, ◌<◌, ◌^◌, ◌-◌, ◌∷◌, [], length, map, IfOk, IfErr, IfSome, MatchOption};
-ghost use Rattle.text.specs.Text.{hex_digit_of};
+ghost use Rattle.text.specs.Reading.{hex_digit_of};
 ghost use Rattle.protocol.specs.declared.Fault.TheVariants.{Bad};
 ghost use Rattle.protocol.specs.Inner.Lines.{decimal_of, unfolded, or_bad, dashed, option_of, bytes_of, followed, parts, rest_parts, cut, single_of, pair_of, typed, slot_of};
 

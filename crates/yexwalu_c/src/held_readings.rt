@@ -3,7 +3,7 @@ ghost use Rattle.std.specs.Prelude.{◌≡◌, true, length};
 ghost use Rattle.word.specs.Result.{ok};
 ghost use Rattle.refusal.specs.Told.{answered, here, nothing};
 ghost use Rattle.ty.specs.View.{table_of};
-ghost use Rattle.trace.specs.Listing.{written_to};
+ghost use Rattle.traced.specs.Listing.{written_to};
 ghost use Rattle.heap.specs.Lent.{view};
 ghost use Rattle.heap.specs.WellFormed.{well_formed};
 ghost use Rattle.pages.specs.Form.{written};

@@ -4,7 +4,7 @@ use Prim.Native.Nat.{ℕ}
 use lib.ListN.{replicate}
 use Rattle.refusal.specs.Told.{nothing}
 use Rattle.heap.specs.Lent.{Lent, lent, view}
-use Rattle.heap.specs.Done.{Tells}
+use Rattle.heap.specs.Inner.Tells.{Tells}
 use Rattle.script.specs.Script.{run_script}
 use Rattle.held.proofs.Holding.{formed, holds}
 use Rattle.held_run.proofs.yexwalu_held_run.Goals as goal

@@ -2,7 +2,7 @@
 use Rattle.std.proofs.Common.{refl, sym, ◌∙◌, [], ◌∷◌}
 use Rattle.std.proofs.lemmas.Result.{err_from_is_err_and}
 use Rattle.refusal.specs.declared.Refusal.TheVariants.{Pins}
-use Rattle.heap_calls.specs.Pins.{rising}
+use Rattle.word.specs.Lists.{rising}
 use Rattle.door.specs.HeapCalls.{test}
 use Rattle.door.proofs.Entering.{and-holds, and-fails, and-more}
 use Rattle.held_wanted.proofs.admit.Goals as goal

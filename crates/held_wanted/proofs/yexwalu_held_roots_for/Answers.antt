@@ -3,8 +3,8 @@ use mathlib.Core.Path.{sym, subst}
 use lib.ListN.{length}
 use Rattle.ty.specs.View.{table_of}
 use Rattle.heap.specs.Lent.{Lent, view}
-use Rattle.trace.specs.Listing.{Lists}
-use Rattle.wanted_door.specs.Inner.Listing.{CanSearch}
+use Rattle.traced.specs.Inner.Lists.{Lists}
+use Rattle.mark.specs.Inner.Scratch.{CanMark}
 use Rattle.wanted_door.specs.RootsFor.{root_handles}
 use Rattle.wanted_door.proofs.Entries.{can-search, roots-refused, roots-done}
 use Rattle.held.specs.Held.{in_place}
@@ -13,7 +13,7 @@ use Rattle.held_wanted.proofs.yexwalu_held_roots_for.Goals as goal
 
 pub list_roots-reply-requires : goal.list_roots-reply-requires
 list_roots-reply-requires c =
-    subst (λ (l : Lent). CanSearch l c.args.wanted.now c.admit.new.marks c.admit.new.work) (sym c.see-view.ensures)
+    subst (λ (l : Lent). CanMark l c.args.wanted.now c.admit.new.marks c.admit.new.work) (sym c.see-view.ensures)
     (can-search (record { types = c.args.types.now; fields = c.args.fields.now; consts = c.args.consts.now; bytes = c.args.bytes.now; pins = c.args.pins.now; wanted = c.args.wanted.now }) (in_place c.args.tag.now c.args.numbers.now c.args.log.now c.args.lengths.now c.args.narrow.now c.args.wide.now c.args.pool.now) (wanted-known (in_place c.args.tag.now c.args.numbers.now c.args.log.now c.args.lengths.now c.args.narrow.now c.args.wide.now c.args.pool.now) c.requires.formed (record { types = c.args.types.now; fields = c.args.fields.now; consts = c.args.consts.now; bytes = c.args.bytes.now; pins = c.args.pins.now; wanted = c.args.wanted.now }) c.requires.good c.admit.ensures) c.in-Ok.is)
 
 pub returns-in-Err : goal.returns-in-Err

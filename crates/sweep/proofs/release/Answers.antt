@@ -3,7 +3,8 @@ use native.Mathlib.Omega.{arith}
 use lib.ListN.{length-set}
 use Rattle.std.specs.Prelude.{ℕ, ◌+◌, ◌%◌}
 use Rattle.std.proofs.Common.{refl, ap, slice_set}
-use Rattle.heap.specs.Header.{set_epoch, set_free, set_retired, set_changed}
+use Rattle.heap.specs.Header.{set_epoch}
+use Rattle.heap.specs.Inner.Header.{set_changed, set_retired, set_free}
 use Rattle.sweep.proofs.Releasing.{free_in, retired-in}
 use Rattle.sweep.proofs.release.Goals as goal
 

@@ -1,5 +1,5 @@
 -- `collect_door::joined::admit_code` meets its contract.
-use Rattle.roots.specs.Inner.Plans.{lent as lent_code}
+use Rattle.code.specs.Inner.Plans.{lent as lent_code}
 use Rattle.collect_door.proofs.Entries.{bad-code, bad-values, bad-pins, bad-addresses, good-code}
 use Rattle.collect_door.proofs.joined.admit_code.Goals as goal
 
