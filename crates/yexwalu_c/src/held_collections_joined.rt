@@ -1,11 +1,11 @@
 // For C: the calls of held_collect, joined.
 ghost use Rattle.std.specs.Prelude.{◌≡◌, true, [], ◌∷◌};
-ghost use Rattle.ty.specs.Check.{table_good};
 ghost use Rattle.heap.specs.WellFormed.{well_formed};
 ghost use Rattle.door.specs.HeapCalls.{outcome_of};
 ghost use Rattle.collect_door.specs.Calls.{joined_call};
 ghost use Rattle.collect_door.specs.Demand.{Demand};
 ghost use Rattle.held.specs.Held.{in_place};
+ghost use Rattle.ty.specs.Check.{table_good};
 
 use refusal::Answer;
 

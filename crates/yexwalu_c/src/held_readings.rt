@@ -2,16 +2,16 @@
 ghost use Rattle.std.specs.Prelude.{◌≡◌, true, length};
 ghost use Rattle.word.specs.Result.{ok};
 ghost use Rattle.refusal.specs.Told.{answered, here, nothing};
-ghost use Rattle.ty.specs.View.{table_of};
-ghost use Rattle.traced.specs.Listing.{written_to};
 ghost use Rattle.heap.specs.Lent.{view};
 ghost use Rattle.heap.specs.WellFormed.{well_formed};
 ghost use Rattle.pages.specs.Form.{written};
 ghost use Rattle.pages.specs.Page.{page_text};
 ghost use Rattle.pages.specs.Answer.{text_answer, text_out};
+ghost use Rattle.held.specs.Held.{in_place};
+ghost use Rattle.ty.specs.View.{table_of};
+ghost use Rattle.traced.specs.Listing.{written_to};
 ghost use Rattle.slot_door.specs.SlotHandles.{slot_handles};
 ghost use Rattle.slot_door.specs.Traceable.{misfit, misfit_told};
-ghost use Rattle.held.specs.Held.{in_place};
 
 use refusal::Answer;
 
