@@ -40,16 +40,34 @@ fn ran(input: Vec<u8>, command: &str) -> Vec<u8> {
     child.wait_with_output().unwrap().stdout
 }
 
+// The commands that this page shows, each with the lines under it, which are indented; empty ones among them count.
+fn transcript(page: &str) -> Vec<(&str, String)> {
+    let mut steps: Vec<(&str, String)> = Vec::new();
+    let mut shown = false;
+    for line in page.lines() {
+        if let Some(command) = line.strip_prefix("    $ yexwalu ") {
+            steps.push((command, String::new()));
+            shown = true;
+        } else if shown && (line.is_empty() || line.starts_with("    ")) {
+            let answer = &mut steps.last_mut().unwrap().1;
+            answer.push_str(line.strip_prefix("    ").unwrap_or(line));
+            answer.push('\n');
+        } else {
+            shown = false;
+        }
+    }
+    steps
+}
+
 #[test]
 fn the_readme_shows_what_the_command_says() {
     let readme = text("README.md");
-    let transcript = readme.split_once("    $ yexwalu ").unwrap().1.split("\n\n").next().unwrap();
-    for step in transcript.split("    $ yexwalu ") {
-        let (command, answer) = step.split_once('\n').unwrap();
+    let steps = transcript(&readme);
+    assert!(steps.len() > 15);
+    for (command, shown) in steps {
         // each command reads what the one before it says
         let said = command.split(" | yexwalu ").fold(Vec::new(), ran);
-        let shown: String = String::from_utf8(said).unwrap().lines().map(|l| format!("    {l}\n")).collect();
-        assert_eq!(shown.trim_end(), format!("{answer}\n").trim_end(), "{command}");
+        assert_eq!(shown.trim_end(), String::from_utf8(said).unwrap().trim_end(), "{command}");
     }
 }
 
