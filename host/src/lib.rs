@@ -25,12 +25,16 @@
 //! ```
 #![warn(missing_docs)]
 
+#[rustfmt::skip]
 mod checked;
+#[rustfmt::skip]
 pub mod ffi;
 mod figures;
 mod function;
 mod handle;
+#[rustfmt::skip]
 mod heap;
+#[rustfmt::skip]
 mod held;
 mod lists;
 mod open;

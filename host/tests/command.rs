@@ -14,21 +14,11 @@ struct Ran {
 }
 
 fn run_with(words: &[&str], input: &[u8]) -> Ran {
-    let mut child = Command::new(env!("CARGO_BIN_EXE_yexwalu"))
-        .args(words)
-        .stdin(Stdio::piped())
-        .stdout(Stdio::piped())
-        .stderr(Stdio::piped())
-        .spawn()
-        .unwrap();
+    let mut child = Command::new(env!("CARGO_BIN_EXE_yexwalu")).args(words).stdin(Stdio::piped()).stdout(Stdio::piped()).stderr(Stdio::piped()).spawn().unwrap();
     // a command that does not read its input closes it
     let _ = child.stdin.take().unwrap().write_all(input);
     let done = child.wait_with_output().unwrap();
-    Ran {
-        status: done.status.code().unwrap(),
-        out: String::from_utf8(done.stdout).unwrap(),
-        err: String::from_utf8(done.stderr).unwrap(),
-    }
+    Ran { status: done.status.code().unwrap(), out: String::from_utf8(done.stdout).unwrap(), err: String::from_utf8(done.stderr).unwrap() }
 }
 
 fn run(words: &[&str]) -> Ran {
@@ -421,13 +411,7 @@ fn same_compares_what_is_sealed() {
     more.alloc(Kind::Typed(9), b"nobody looks here").unwrap();
     let more = file("same-c.page", &more.write_page().unwrap());
     let other = file("same-d.page", &model(2, b"hull").write_page().unwrap());
-    for (a, b, expected) in [
-        (&first, &first, says(0, "same\n")),
-        (&first, &planes, says(0, "same\n")),
-        (&planes, &more, says(0, "same\n")),
-        (&first, &other, says(1, "different: less\n")),
-        (&other, &more, says(1, "different: greater\n")),
-    ] {
+    for (a, b, expected) in [(&first, &first, says(0, "same\n")), (&first, &planes, says(0, "same\n")), (&planes, &more, says(0, "same\n")), (&first, &other, says(1, "different: less\n")), (&other, &more, says(1, "different: greater\n"))] {
         assert_eq!(said(run(&["same", a, b])), expected, "{a} {b}");
     }
     // one of them is standard input
@@ -733,7 +717,7 @@ fn each_with(file: &str) -> Vec<Vec<&str>> {
 #[test]
 fn what_cannot_be_read_is_2_and_is_named() {
     let locked = file("locked.page", b"");
-    fs::set_permissions(&locked, std::os::unix::fs::PermissionsExt::from_mode(0)).unwrap();
+    fs::set_permissions(&locked, std::os::unix::fs::PermissionsExt::from_mode(0o000)).unwrap();
     let endless = file("endless.page", b"");
     // nothing of it is on the disk
     fs::File::options().write(true).open(&endless).unwrap().set_len(5 << 30).unwrap();
@@ -909,7 +893,9 @@ fn who_stops_reading_changes_no_answer() {
     let many = [&["shelf"][..], &vec![good.as_str(); 1000], &[bad.as_str()]].concat();
     all(&many, 1);
     // what is said on standard error alone
-    for (words, status) in [(&["show", &bad][..], 1), (&["length", &bad], 1), (&["show", "--types", &bad, &good], 1), (&["same", &bad, &bad], 1), (&["check", "none"], 2), (&["check"], 2), (&["look"], 2), (&["convert", "--data", "-o", &good, &good], 2)] {
+    for (words, status) in
+        [(&["show", &bad][..], 1), (&["length", &bad], 1), (&["show", "--types", &bad, &good], 1), (&["same", &bad, &bad], 1), (&["check", "none"], 2), (&["check"], 2), (&["look"], 2), (&["convert", "--data", "-o", &good, &good], 2)]
+    {
         assert_eq!(unheard(words, b"", true), (Some(status), String::new()), "{words:?}");
     }
 }

@@ -60,7 +60,7 @@ impl Text {
         let file = File::open(name)?;
         let about = file.metadata()?;
         // a pipe has no size
-        let size = about.is_file().then(|| about.len());
+        let size = about.is_file().then_some(about.len());
         if size > Some(LONGEST) {
             return Err(too_long());
         }
