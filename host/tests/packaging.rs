@@ -63,7 +63,7 @@ fn transcript(page: &str) -> Vec<(&str, String)> {
 fn the_readme_shows_what_the_command_says() {
     let readme = text("README.md");
     let steps = transcript(&readme);
-    assert!(steps.len() > 15);
+    assert!(steps.len() > 12);
     for (command, shown) in steps {
         // each command reads what the one before it says
         let said = command.split(" | yexwalu ").fold(Vec::new(), ran);

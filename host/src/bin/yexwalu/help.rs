@@ -5,7 +5,7 @@ pub const ALL: &str = "\
 Questions about pages: the heaps of saved VHDL runs as text.
 
     yexwalu check FILE..                    is each file a page of a heap, and of which form?
-    yexwalu show FILE                       what a page holds: its objects, the handles in them and where they lead
+    yexwalu show FILE                       what a page holds: its objects, and where their handles lead
     yexwalu same FILE FILE                  do two pages hold the same model? And which comes first?
     yexwalu length FILE                     how many bytes the page of its heap has, written today
     yexwalu convert --data|--planes FILE    that page, with objects as they are or in byte planes
