@@ -486,7 +486,7 @@ fn same_says_all_that_is_wrong() {
     // a page without seals needs roots, whichever of the two it is
     let bytes = samples("bytes.page");
     for (a, b, option) in [(&bytes, &good, "--roots"), (&good, &bytes, "--roots-b")] {
-        let expected = format!("yexwalu: {bytes}: nothing is sealed in it, so its roots are to be given: {option} H,H..\nyexwalu --help says more.\n");
+        let expected = format!("yexwalu: {bytes}: nothing is sealed in it, so its roots are to be given: {option} H,H..\nyexwalu same --help says more.\n");
         assert_eq!(said(run(&["same", a, b])), (2, String::new(), expected));
         assert_eq!(said(run(&["same", a, b, option, "72057594037927937"])), says(1, if option == "--roots" { "different: less\n" } else { "different: greater\n" }));
     }
@@ -696,7 +696,9 @@ fn bad_usage_is_2() {
     for words in commands.iter().chain(&options).chain(&columns).chain(&saves) {
         let ran = run(words);
         assert_eq!((ran.status, ran.out.as_str()), (2, ""), "{words:?}");
-        assert!(ran.err.starts_with("yexwalu: ") && ran.err.ends_with("yexwalu --help says more.\n"), "{words:?}");
+        // by its second line it leads on to the help of the command, where there is such a one
+        let command = words.first().filter(|word| COMMANDS.contains(word)).map_or(String::new(), |word| format!("{word} "));
+        assert!(ran.err.starts_with("yexwalu: ") && ran.err.ends_with(&format!("\nyexwalu {command}--help says more.\n")) && ran.err.lines().count() == 2, "{words:?}");
     }
 }
 
@@ -794,8 +796,8 @@ fn a_very_long_line() {
 fn one_name_twice() {
     let page = samples("handles.page");
     for words in [&["check", "-", "-"][..], &["shelf", "-", &page, "-"], &["show", "--types", "-", "-"], &["same", "-", "-"], &["same", "--types", "-", "-", &page], &["check", "--", "-", "-"]] {
-        let expected = "yexwalu: standard input can be one of the files, not several\nyexwalu --help says more.\n";
-        assert_eq!(said(run_with(words, b"")), (2, String::new(), expected.into()), "{words:?}");
+        let expected = format!("yexwalu: standard input can be one of the files, not several\nyexwalu {} --help says more.\n", words[0]);
+        assert_eq!(said(run_with(words, b"")), (2, String::new(), expected), "{words:?}");
     }
     assert_eq!(run(&["check", &page, &page]).out, format!("{page}: accepted: writes64, data, retired\n").repeat(2));
     assert_eq!(said(run(&["same", &page, &page])), says(0, "same\n"));
@@ -849,10 +851,13 @@ fn names_that_begin_with_a_dash() {
         let (status, out, err) = here(&["show", "--", word]);
         assert!(status == 2 && out.is_empty() && err.starts_with(&format!("yexwalu: {word}: ")), "{word}: {err}");
     }
-    let usage = |why: &str| (2, String::new(), format!("yexwalu: {why}\nyexwalu --help says more.\n"));
-    assert_eq!(here(&["check", "-old.page"]), usage("check has no option -old.page"));
-    assert_eq!(here(&["check", "--"]), usage("check takes files"));
-    assert_eq!(here(&["--", "check", "./-old.page"]), usage("no command --"));
+    let usage = |why: &str, command: &str| (2, String::new(), format!("yexwalu: {why}\nyexwalu {command}--help says more.\n"));
+    assert_eq!(here(&["check", "-old.page"]), usage("check has no option -old.page", "check "));
+    assert_eq!(here(&["check", "--"]), usage("check takes files", "check "));
+    let all = COMMANDS.join(", ");
+    assert_eq!(here(&["--", "check", "./-old.page"]), usage(&format!("no command --; there are {all}"), ""));
+    assert_eq!(here(&["chek", "--none", "./-old.page"]), usage(&format!("no command chek; there are {all}"), ""));
+    assert_eq!(here(&[]), usage(&format!("a command is missing: {all}"), ""));
     fs::remove_dir_all(folder).unwrap();
 }
 

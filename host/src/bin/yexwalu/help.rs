@@ -1,5 +1,8 @@
 //! What `--help` prints: of all commands in short, and of one by itself.
 
+/// The commands.
+pub const COMMANDS: [&str; 6] = ["check", "show", "same", "length", "convert", "shelf"];
+
 /// Of all commands.
 pub const ALL: &str = "\
 Questions about pages: the heaps of saved VHDL runs as text.
