@@ -819,6 +819,15 @@ fn an_answer_that_cannot_be_written_is_2() {
     }
 }
 
+// `/dev/zero` has no end.
+#[cfg(target_os = "linux")]
+#[test]
+fn too_little_memory_is_2() {
+    let command = format!("ulimit -v 600000 && exec '{}' check /dev/zero", env!("CARGO_BIN_EXE_yexwalu"));
+    let done = Command::new("sh").args(["-c", &command]).output().unwrap();
+    assert_eq!((done.status.code(), String::from_utf8(done.stderr).unwrap().as_str()), (Some(2), "yexwalu: /dev/zero: out of memory\n"));
+}
+
 // What would steer a terminal, or begin a line, is no part of what is said.
 #[test]
 fn a_name_with_a_line_end() {
