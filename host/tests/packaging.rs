@@ -31,6 +31,19 @@ fn the_licence_is_there() {
     assert!(text("../NOTICE").ends_with(terms));
 }
 
+// What is handed on has the terms and the changes with it, though they stand elsewhere in the repository.
+#[test]
+fn the_package_has_what_belongs_to_it() {
+    let listed = Command::new(env!("CARGO")).args(["package", "--list", "--allow-dirty", "--offline"]).current_dir(env!("CARGO_MANIFEST_DIR")).output().unwrap();
+    let listed = String::from_utf8(listed.stdout).unwrap();
+    for name in ["LICENSE", "NOTICE", "CHANGES.md", "README.md", "include/yexwalu.h", "build.rs"] {
+        assert!(listed.lines().any(|line| line == name), "{name} is not in the package:\n{listed}");
+    }
+    for (here, there) in [("LICENSE", "../LICENSE"), ("NOTICE", "../NOTICE"), ("CHANGES.md", "../docs/CHANGES.md")] {
+        assert_eq!(text(here), text(there));
+    }
+}
+
 // What the command says at the top of the repository, by its words and what it reads.
 fn ran(input: Vec<u8>, command: &str) -> Vec<u8> {
     let top = format!("{}/..", env!("CARGO_MANIFEST_DIR"));
