@@ -844,7 +844,7 @@ impl Heap {
     /// smaller slot at the first place where they differ. Two objects that hold each other, and that nothing else keeps, need one root. Pins and wanted slots are strictly rising (14). Where no roots do it, 21.
     ///
     /// ```
-    /// use yexwalu::{Heap, Kind, Refusal, TypeTable};
+    /// use yexwalu::{Handle, Heap, Kind, Refusal, TypeTable};
     /// let mut table = TypeTable::new();
     /// let access = table.access();
     /// let mut heap = Heap::new(1, 64, 4096)?;
@@ -853,6 +853,9 @@ impl Heap {
     /// heap.alloc(Kind::Bytes, b"other")?;
     /// let (held, root_slot) = (heap.resolve(held)?, heap.resolve(root)?);
     /// assert_eq!(heap.roots_for(&table, &[], &[held, root_slot])?, [root]);
+    /// // the same into a lent list
+    /// let mut out = [Handle::NULL; 2];
+    /// assert_eq!((heap.roots_for_into(&table, &[], &[held, root_slot], &mut out)?, out[0]), (1, root));
     /// assert_eq!(heap.roots_for(&table, &[], &[root_slot]), Err(Refusal::NoRoots));
     /// # Ok::<(), Refusal>(())
     /// ```
@@ -959,6 +962,21 @@ impl Heap {
 
     /// As `collect_joined`, with lent scratch for the live map: `Function::scratch_words` at least (18). The addresses are lent as one list: address, slot index, address, slot index, and so on (14
     /// where it is not in pairs). Any index is taken.
+    ///
+    /// ```
+    /// use yexwalu::{Class, Function, Heap, InstKind, Kind, Refusal, TypeTable};
+    /// let mut f = Function::new();
+    /// let used = f.register(Class::Handle);
+    /// let call = f.instruction(InstKind::Safepoint, &[], &[], &[]);
+    /// f.instruction(InstKind::Return, &[], &[used], &[]);
+    /// f.block(0, 2);
+    /// let mut heap = Heap::new(1, 64, 4096)?;
+    /// let (kept, lost) = (heap.alloc(Kind::Bytes, b"kept")?, heap.alloc(Kind::Bytes, b"lost")?);
+    /// let mut rows = vec![0; f.scratch_words()];
+    /// heap.collect_joined_with(&TypeTable::new(), &f, call, &[kept.0], &[], &[], &[], &[], &mut rows)?;
+    /// assert_eq!((heap.resolve(kept).is_ok(), heap.resolve(lost)), (true, Err(Refusal::Stale)));
+    /// # Ok::<(), Refusal>(())
+    /// ```
     #[allow(clippy::too_many_arguments)]
     pub fn collect_joined_with(
         &mut self,
@@ -1011,6 +1029,16 @@ impl Heap {
     }
 
     /// As `run`, with lent room for the bytes of one object, at least as long as the pool (18).
+    ///
+    /// ```
+    /// use yexwalu::{Heap, Refusal};
+    /// let mut heap = Heap::new(1, 64, 4096)?;
+    /// let mut room = vec![0; 4096];
+    /// heap.run_with(b"alloc,0,2,4142\n", &mut room)?;
+    /// assert_eq!(heap.data(0)?, b"AB");
+    /// assert_eq!(heap.run_with(b"seal,0,0,\n", &mut room[..4095]), Err(Refusal::Scratch));
+    /// # Ok::<(), Refusal>(())
+    /// ```
     pub fn run_with(&mut self, script: &[u8], room: &mut [u8]) -> Result<(), Refusal> {
         let done = change!(&mut self.memory, self.scratch.get_mut(), yexwalu_run(self.header)(script.as_ptr(), script.len(), room.as_mut_ptr(), room.len()));
         self.done(done).map(|_| ())
