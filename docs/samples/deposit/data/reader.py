@@ -306,6 +306,9 @@ def fits(heap, table):
 
 def show(heap, table):
     for i, s in enumerate(heap["slots"]):
+        if s["kind"] == 0:
+            print(f"slot {i}: dead")
+            continue
         what = KINDS[s["kind"]] + (f" {s['type']} {table['types'][s['type']][4] if table and s['type'] < len(table['types']) else ''}" if s["kind"] == 1 else "")
         print(f"slot {i}: handle {heap['tag'] << 56 | i << 32 | s['generation']}, {what}, {s['data'][s['start']:].hex()}")
         for h in slot_handles(table, s) if table or s["kind"] != 1 else []:
