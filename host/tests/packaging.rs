@@ -84,6 +84,20 @@ fn the_readme_shows_what_the_command_says() {
     }
 }
 
+// The first command of all, which asks for Python alone.
+#[test]
+fn the_first_command_prints_what_the_page_says() {
+    let page = text("../README.md");
+    let (command, rest) = page.split_once("\n    python3 ").unwrap().1.split_once('\n').unwrap();
+    let shown: Vec<&str> = rest.lines().skip_while(|l| !l.starts_with("    ")).map_while(|l| l.strip_prefix("    ")).collect();
+    let top = format!("{}/..", env!("CARGO_MANIFEST_DIR"));
+    let Ok(done) = Command::new("python3").args(command.split(' ')).current_dir(top).output() else {
+        println!("no python3: not tried");
+        return;
+    };
+    assert_eq!(String::from_utf8(done.stdout).unwrap().lines().collect::<Vec<_>>(), shown);
+}
+
 // The words that `bench` takes, as they stand in its source and in the document.
 #[test]
 fn the_document_on_performance_lists_the_rows_that_there_are() {
