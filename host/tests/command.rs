@@ -249,12 +249,23 @@ fn show_goes_by_a_type_table() {
 #[test]
 fn show_refuses_what_is_no_type_table() {
     let page = samples("record.page");
-    for (name, status, why) in [("17-comma.table", 1, "17 page: no type table to go by\n"), ("10-class.table", 1, "10 type table: no type table to go by\n"), ("bytes.page", 1, "17 page: "), ("none.table", 2, "")] {
+    for (name, status, why) in
+        [("17-comma.table", 1, "17 page: no type table to go by\n"), ("10-class.table", 1, "10 type table: no type table to go by\n"), ("bytes.page", 1, "17 page: no type table to go by: it begins as a page does\n"), ("none.table", 2, "")]
+    {
         let table = samples(name);
         let ran = run(&["show", "--types", &table, &page]);
         assert_eq!((ran.status, ran.out.as_str()), (status, ""), "{name}");
         assert!(ran.err.starts_with(&format!("yexwalu: {table}: {why}")), "{}", ran.err);
     }
+}
+
+#[test]
+fn a_type_table_with_line_ends_of_windows() {
+    let (page, text) = (samples("record.page"), fs::read_to_string(samples("record.table")).unwrap());
+    let table = file("windows.table", text.replace('\n', "\r\n").as_bytes());
+    let why = "no type table to go by: lines end as on Windows in it, in bytes 13 and 10, not in 10 alone";
+    assert_eq!(said(run(&["show", "--types", &table, &page])), (1, String::new(), format!("yexwalu: {table}: 17 page: {why}\n")));
+    fs::remove_file(table).unwrap();
 }
 
 #[test]
@@ -624,7 +635,7 @@ fn help_and_version() {
         assert!(all.contains(&format!("    yexwalu {command} ")), "{command}");
         // of one command: that alone
         let one = help(&[command, "--help"]);
-        assert!(one.starts_with(&format!("yexwalu {command} ")) && one != all, "{command}");
+        assert!(one.starts_with(&format!("yexwalu {command} ")) && one.contains("\nExit status: 0 ") && one != all, "{command}");
         for words in [&["help", command][..], &[command, "-h"], &[command, "none", "--none", "--help"]] {
             assert_eq!(help(words), one, "{words:?}");
         }

@@ -78,6 +78,17 @@ fn found(text: &[u8], at: usize) -> &'static str {
     }
 }
 
+// The same of a file that is no type table.
+fn found_in_table(text: &[u8]) -> &'static str {
+    if text.starts_with(b"tag,") {
+        return ": it begins as a page does";
+    }
+    if text.windows(2).any(|pair| pair == b"\r\n") {
+        return ": lines end as on Windows in it, in bytes 13 and 10, not in 10 alone";
+    }
+    ""
+}
+
 fn verdict(name: &OsStr, text: &Text, answer: Result<Form, Refusal>) -> String {
     let name = input::shown(name);
     match answer {
@@ -159,7 +170,7 @@ fn types_of(name: Option<&OsStr>) -> Result<Types, u8> {
         USAGE
     })?;
     Types::read(text.bytes()).map_err(|why| {
-        say(format!("{}: no type table to go by", refusal(why)));
+        say(format!("{}: no type table to go by{}", refusal(why), found_in_table(text.bytes())));
         NO
     })
 }
