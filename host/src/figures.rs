@@ -49,7 +49,7 @@ impl Figures {
     /// ```
     #[must_use]
     pub fn and(self, other: Figures) -> Figures {
-        // SAFETY: the call takes two values and answers one.
+        // SAFETY: the call takes two values and answers one. It has no `requires`.
         unsafe { held::yexwalu_held_figures_and(self, other) }
     }
 

@@ -1019,6 +1019,9 @@ impl Heap {
     /// heap.run(b"alloc,0,2,4142\nalloc,0,2,6c6f7374\ntake,72057598332895233,0,\nseal,0,0,\nrecycle,0,0,\n")?;
     /// assert_eq!(heap.data(0)?, b"AB");
     /// assert_eq!((heap.slots()?, heap.live()?, heap.has_quarantine()?), (2, 1, false));
+    /// // with lent room
+    /// assert_eq!(heap.run_with(b"seal,0,0,\n", &mut [0; 4095]), Err(Refusal::Scratch));
+    /// heap.run_with(b"seal,0,0,\n", &mut [0; 4096])?;
     /// assert_eq!(heap.run(b"alloc,0,2,43\nfree,0,0,\n"), Err(Refusal::Page));
     /// assert_eq!(heap.live()?, 2);
     /// # Ok::<(), Refusal>(())
@@ -1029,16 +1032,6 @@ impl Heap {
     }
 
     /// As `run`, with lent room for the bytes of one object, at least as long as the pool (18).
-    ///
-    /// ```
-    /// use yexwalu::{Heap, Refusal};
-    /// let mut heap = Heap::new(1, 64, 4096)?;
-    /// let mut room = vec![0; 4096];
-    /// heap.run_with(b"alloc,0,2,4142\n", &mut room)?;
-    /// assert_eq!(heap.data(0)?, b"AB");
-    /// assert_eq!(heap.run_with(b"seal,0,0,\n", &mut room[..4095]), Err(Refusal::Scratch));
-    /// # Ok::<(), Refusal>(())
-    /// ```
     pub fn run_with(&mut self, script: &[u8], room: &mut [u8]) -> Result<(), Refusal> {
         let done = change!(&mut self.memory, self.scratch.get_mut(), yexwalu_run(self.header)(script.as_ptr(), script.len(), room.as_mut_ptr(), room.len()));
         self.done(done).map(|_| ())
@@ -1266,6 +1259,10 @@ impl Heap {
     /// let two: Vec<u8> = [7u64, 8].iter().flat_map(|x| x.to_le_bytes()).collect();
     /// let both = heap.alloc(Kind::Typed(pair), &two)?;
     /// assert_eq!(heap.slot_handles(&table, heap.resolve(both)?)?, [Handle(7), Handle(8)]);
+    /// // the same into a lent list
+    /// let mut out = [Handle::NULL; 4];
+    /// let n = heap.slot_handles_into(&table, heap.resolve(both)?, &mut out)?;
+    /// assert_eq!(out[..n], [Handle(7), Handle(8)]);
     /// # Ok::<(), Refusal>(())
     /// ```
     pub fn slot_handles(&self, types: &TypeTable, slot: impl Into<Slot>) -> Result<Vec<Handle>, Refusal> {
@@ -1277,16 +1274,6 @@ impl Heap {
     }
 
     /// As `slot_handles`, with the handles written to the front of a lent list (7). The answer is how many.
-    ///
-    /// ```
-    /// use yexwalu::{Handle, Heap, Kind, Refusal, TypeTable};
-    /// let mut heap = Heap::new(1, 64, 4096)?;
-    /// heap.alloc(Kind::Handles, &[0, 0, 0, 7, 8u64].map(u64::to_le_bytes).concat())?;
-    /// let mut out = [Handle::NULL; 4];
-    /// let n = heap.slot_handles_into(&TypeTable::new(), 0, &mut out)?;
-    /// assert_eq!(out[..n], [Handle(7), Handle(8)]);
-    /// # Ok::<(), Refusal>(())
-    /// ```
     pub fn slot_handles_into(&self, types: &TypeTable, slot: impl Into<Slot>, out: &mut [Handle]) -> Result<usize, Refusal> {
         let slot = slot.into().at();
         let told = ask_known!(self, yexwalu_held_slot_handles, yexwalu_slot_handles(

@@ -12,7 +12,7 @@
 //!   crates/histories/specs; a page that is not read leaves what was there.
 //!
 //! The calls on a type table have no `requires`: on every table they answer what their contracts say, which is what the public calls do where the table is in order. `CheckedTable` has such a one in a private field.
-//! Nor have the two on figures alone: they go in by value, and the output of a line is an array, of which Rust knows the length.
+//! Nor has that which puts a line of figures: its output is an array, of which Rust knows the length.
 //!
 //! The header lies in `Header` as four parts: the tag; since_gc, reclaim_at, live_bytes and epoch; the log; the five lengths. `Parts` points to them, and is held to the struct below.
 use crate::ffi::{Answer, Figures, Header, RawLayout};

@@ -37,13 +37,13 @@
 //! |---|---|
 //! | save a heap as a page of text, and open it | [`Heap::write_page`], [`Heap::open`]; [`Heap::page_with`] for byte planes, which often pack better |
 //! | save the type table beside it, and see that the two fit together | [`TypeTable::write_text`], [`Heap::misfit`] |
-//! | read many objects and their handles | [`Heap::view`], with a table that is checked once ([`CheckedTable`]) |
+//! | read many objects and their handles | [`Heap::view`] |
 //! | make many calls from a text | [`Heap::run`] |
 //! | drop what no root leads to | [`Heap::collect`]; [`Heap::roots_for`] tells which roots keep just the objects that are wanted |
 //! | compare two heaps under whatever slot numbers, and sort them | [`Heap::same`], [`Heap::order`] |
 //! | tell a person where a text stops being a page | [`page_stops`] |
 //!
-//! A heap is checked when it is read, not call by call: [`Heap`] says which calls check it again. The folder `examples` makes, saves, opens, collects and compares heaps; the command `yexwalu` answers questions about pages, and writes them in the form of today.
+//! A heap is checked when it is read, not call by call ([`Heap`]). A type table is checked by each call that takes it, or once ([`CheckedTable`]). The folder `examples` makes, saves, opens, collects and compares heaps; the command `yexwalu` answers questions about pages, and writes them in the form of today.
 //!
 //! Cases and fields may be added to most types here ([`Handle`], [`Slot`] and [`Direction`] stay as they are), so a host makes them by functions and matches with a last `_`. What a version changed stands in CHANGES.md, what is proved and what is not in README.md. The terms are those of the MIT licence, as LICENSE has them.
 #![warn(missing_docs)]

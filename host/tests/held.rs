@@ -119,7 +119,15 @@ fn draw(random: &mut Random, heap: &Heap, handles: &[Handle]) -> Call {
         pins.sort_unstable();
         pins.dedup();
     }
-    Call { what: random.below(35), handle, slot: random.below(slots + 2) as u32, number: if random.below(2) == 0 { random.below(300) } else { random.word() }, bytes: random.bytes(12), room: random.below(14) as usize, pins }
+    Call {
+        what: random.below(35),
+        handle,
+        slot: random.below(slots + 2) as u32,
+        number: if random.below(2) == 0 { random.below(300) } else { random.word() },
+        bytes: random.bytes(12),
+        room: random.below(14) as usize,
+        pins,
+    }
 }
 
 // The call on both; what it was refused with.
