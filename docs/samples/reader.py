@@ -12,6 +12,7 @@ import struct, sys
 NO_CONSTANT = 4294967295
 KINDS = ["dead", "Typed", "Bytes", "Handles"]
 LAST = 4294967295     # the generation of a slot that is worn out
+WORDS = {1: "broken heap", 10: "type table", 17: "page"}
 # Sections 2 and 14: the names lines that are known, of the earlier forms and of the one that is written now. A later form adds a line here.
 HEADS = [["tag", "since_gc", "reclaim_at", "live_bytes", "slots", "free", "quarantine", "sealed"] + last for last in ([], ["retired"])]
 SLOTS = [["generation", "kind", "type", "start", writes, column] for column in ("planes", "data") for writes in ("writes", "writes64")]
@@ -305,6 +306,9 @@ def fits(heap, table):
 
 def show(heap, table):
     for i, s in enumerate(heap["slots"]):
+        if s["kind"] == 0:
+            print(f"slot {i}: dead")
+            continue
         what = KINDS[s["kind"]] + (f" {s['type']} {table['types'][s['type']][4] if table and s['type'] < len(table['types']) else ''}" if s["kind"] == 1 else "")
         print(f"slot {i}: handle {heap['tag'] << 56 | i << 32 | s['generation']}, {what}, {s['data'][s['start']:].hex()}")
         for h in slot_handles(table, s) if table or s["kind"] != 1 else []:
@@ -317,19 +321,33 @@ def answer(text):
     except Refused as why:
         return why.args[0]
 
-if __name__ == "__main__":
-    if len(sys.argv) < 3 or sys.argv[1] not in ("page", "fits", "same", "answer") or (sys.argv[1] == "same" and len(sys.argv) < 6):
-        sys.exit(__doc__)
-    if sys.argv[1] == "same":
-        table = read_table(open(sys.argv[6], "rb").read()) if len(sys.argv) > 6 else {"types": [], "fields": [], "constants": [], "bytes": b""}
-        heaps = [read_page(open(f, "rb").read()) for f in sys.argv[2:6:2]]
-        roots = [h["sealed"] if r == "sealed" else [int(x) for x in r.split(",")] for h, r in zip(heaps, sys.argv[3:7:2])]
+def taken(read, name):
+    """What a file holds. One that is refused or can't be read ends the program: its name, the number, the word of section 11."""
+    try:
+        with open(name, "rb") as f:
+            return read(f.read())
+    except Refused as why:
+        sys.exit(f"{name}: {why} {WORDS[why.args[0]]}")
+    except OSError as why:
+        sys.exit(f"{name}: {why.strerror}")
+
+def main(command, words):
+    if command == "same":
+        table = taken(read_table, words[4]) if len(words) > 4 else {"types": [], "fields": [], "constants": [], "bytes": b""}
+        heaps = [taken(read_page, name) for name in words[:4:2]]
+        roots = [h["sealed"] if r == "sealed" else [int(x) for x in r.split(",")] for h, r in zip(heaps, words[1:4:2])]
         print(compared((heaps[0], roots[0]), (heaps[1], roots[1]), table))
-        sys.exit()
-    files = [open(f, "rb").read() for f in sys.argv[2:]]
-    if sys.argv[1] == "answer":
-        print("\n".join(f"{name} {answer(text)}" for name, text in zip(sys.argv[2:], files)))
-    elif sys.argv[1] == "page":
-        show(read_page(files[0]), read_table(files[1]) if len(files) > 1 else None)
+    elif command == "answer":
+        for name in words:
+            print(name, taken(answer, name))
+    elif command == "page":
+        show(taken(read_page, words[0]), taken(read_table, words[1]) if len(words) > 1 else None)
     else:
-        print({None: "fits"}.get(slot := fits(read_page(files[0]), read_table(files[1])), f"slot {slot} does not fit"))
+        slot = fits(taken(read_page, words[0]), taken(read_table, words[1]))
+        print("fits" if slot is None else f"slot {slot} does not fit")
+
+# so many words each, at least
+if __name__ == "__main__":
+    if len(sys.argv) - 2 < {"page": 1, "fits": 2, "same": 4, "answer": 1}.get(sys.argv[1] if sys.argv[1:] else "", len(sys.argv)):
+        sys.exit(__doc__)
+    main(sys.argv[1], sys.argv[2:])

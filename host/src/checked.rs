@@ -111,6 +111,17 @@ macro_rules! on_checked {
 
 impl TypeTable {
     /// The table, checked once. It is refused where it is not in order (10).
+    ///
+    /// ```
+    /// use yexwalu::{Refusal, TypeTable};
+    /// let mut table = TypeTable::new();
+    /// let access = table.access();
+    /// assert!(table.checked()?.has_handles(access));
+    /// let mut bad = TypeTable::new();
+    /// bad.types = vec![9, 0, 0, 0];
+    /// assert_eq!(bad.checked(), Err(Refusal::TypeTable));
+    /// # Ok::<(), Refusal>(())
+    /// ```
     pub fn checked(self) -> Result<CheckedTable, Refusal> {
         if !self.good() {
             return Err(Refusal::TypeTable);
@@ -129,6 +140,15 @@ impl Deref for CheckedTable {
 
 impl CheckedTable {
     /// The table, which may then be changed.
+    ///
+    /// ```
+    /// use yexwalu::{Refusal, TypeTable};
+    /// let checked = TypeTable::new().checked()?;
+    /// let mut table = checked.into_table();
+    /// let real = table.real();
+    /// assert_eq!(table.checked()?.layout(real, &[])?.size, 8);
+    /// # Ok::<(), Refusal>(())
+    /// ```
     pub fn into_table(self) -> TypeTable {
         self.0
     }
@@ -143,6 +163,17 @@ impl CheckedTable {
     }
 
     /// As [`TypeTable::layout`]: 11 and 12 are refused.
+    ///
+    /// ```
+    /// use yexwalu::{descriptor, Direction, Refusal, TypeTable};
+    /// let mut table = TypeTable::new();
+    /// let real = table.real();
+    /// let list = table.array(real, None, 1);
+    /// let table = table.checked()?;
+    /// assert_eq!(table.layout(list, &descriptor(&[(1, 3, Direction::To)]))?.size, 24);
+    /// assert_eq!(table.layout(list, &[]), Err(Refusal::Malformed));
+    /// # Ok::<(), Refusal>(())
+    /// ```
     pub fn layout(&self, ty: TypeId, desc: &[u8]) -> Result<Layout, Refusal> {
         let mut offsets = vec![0; self.fields_of(ty)];
         let layout = self.layout_into(ty, desc, &mut offsets)?;
@@ -151,6 +182,17 @@ impl CheckedTable {
     }
 
     /// As [`TypeTable::layout_into`], which also refuses too short a list (7).
+    ///
+    /// ```
+    /// use yexwalu::{Refusal, TypeTable};
+    /// let mut table = TypeTable::new();
+    /// let access = table.access();
+    /// let record = table.record(&[(access, None), (access, None)]);
+    /// let mut offsets = [0; 2];
+    /// assert_eq!(table.checked()?.layout_into(record, &[], &mut offsets)?.offsets, 2);
+    /// assert_eq!(offsets, [0, 8]);
+    /// # Ok::<(), Refusal>(())
+    /// ```
     pub fn layout_into(&self, ty: TypeId, desc: &[u8], offsets: &mut [u64]) -> Result<RawLayout, Refusal> {
         let (c, b) = (&self.0.consts, &self.0.bytes);
         let layout = on_checked!(self, yexwalu_held_layout(c.as_ptr(), c.len(), b.as_ptr(), b.len(), ty.into(), desc.as_ptr(), desc.len(), offsets.as_mut_ptr(), offsets.len()));
@@ -167,16 +209,45 @@ impl CheckedTable {
     }
 
     /// As [`TypeTable::has_handles`].
+    ///
+    /// ```
+    /// use yexwalu::{Refusal, TypeTable};
+    /// let mut table = TypeTable::new();
+    /// let (real, access) = (table.real(), table.access());
+    /// let table = table.checked()?;
+    /// assert_eq!((table.has_handles(real), table.has_handles(access)), (false, true));
+    /// # Ok::<(), Refusal>(())
+    /// ```
     pub fn has_handles(&self, ty: TypeId) -> bool {
         on_checked!(self, yexwalu_held_has_handles(ty.into())).first == 1
     }
 
     /// As [`TypeTable::object_handles`]: 13 is refused.
+    ///
+    /// ```
+    /// use yexwalu::{Handle, Refusal, TypeTable};
+    /// let mut table = TypeTable::new();
+    /// let access = table.access();
+    /// let table = table.checked()?;
+    /// assert_eq!(table.object_handles(access, &7u64.to_le_bytes())?, [Handle(7)]);
+    /// assert_eq!(table.object_handles(access, &[0; 7]), Err(Refusal::Untraceable));
+    /// # Ok::<(), Refusal>(())
+    /// ```
     pub fn object_handles(&self, ty: TypeId, data: &[u8]) -> Result<Vec<Handle>, Refusal> {
         TypeTable::listed(data.len() / 8, |out| self.object_handles_into(ty, data, out))
     }
 
     /// As [`TypeTable::object_handles_into`], which also refuses too short a list (7).
+    ///
+    /// ```
+    /// use yexwalu::{Handle, Refusal, TypeTable};
+    /// let mut table = TypeTable::new();
+    /// let access = table.access();
+    /// let mut out = [Handle::NULL; 4];
+    /// let n = table.checked()?.object_handles_into(access, &7u64.to_le_bytes(), &mut out)?;
+    /// assert_eq!(out[..n], [Handle(7)]);
+    /// # Ok::<(), Refusal>(())
+    /// ```
     pub fn object_handles_into(&self, ty: TypeId, data: &[u8], out: &mut [Handle]) -> Result<usize, Refusal> {
         let (c, b) = (&self.0.consts, &self.0.bytes);
         let answer = on_checked!(self, yexwalu_held_object_handles(c.as_ptr(), c.len(), b.as_ptr(), b.len(), ty.into(), data.as_ptr(), data.len(), out.as_mut_ptr().cast(), out.len()));
@@ -185,11 +256,29 @@ impl CheckedTable {
     }
 
     /// As [`TypeTable::value_handles`]: 13 is refused.
+    ///
+    /// ```
+    /// use yexwalu::{Handle, Refusal, TypeTable};
+    /// let mut table = TypeTable::new();
+    /// let protected = table.protected();
+    /// assert_eq!(table.checked()?.value_handles(protected, &7u64.to_le_bytes())?, [Handle(7)]);
+    /// # Ok::<(), Refusal>(())
+    /// ```
     pub fn value_handles(&self, ty: TypeId, data: &[u8]) -> Result<Vec<Handle>, Refusal> {
         TypeTable::listed(data.len() / 8, |out| self.value_handles_into(ty, data, out))
     }
 
     /// As [`TypeTable::value_handles_into`], which also refuses too short a list (7).
+    ///
+    /// ```
+    /// use yexwalu::{Handle, Refusal, TypeTable};
+    /// let mut table = TypeTable::new();
+    /// let protected = table.protected();
+    /// let mut out = [Handle::NULL; 4];
+    /// let n = table.checked()?.value_handles_into(protected, &7u64.to_le_bytes(), &mut out)?;
+    /// assert_eq!(out[..n], [Handle(7)]);
+    /// # Ok::<(), Refusal>(())
+    /// ```
     pub fn value_handles_into(&self, ty: TypeId, data: &[u8], out: &mut [Handle]) -> Result<usize, Refusal> {
         let (c, b) = (&self.0.consts, &self.0.bytes);
         let answer = on_checked!(self, yexwalu_held_value_handles(c.as_ptr(), c.len(), b.as_ptr(), b.len(), ty.into(), data.as_ptr(), data.len(), out.as_mut_ptr().cast(), out.len()));

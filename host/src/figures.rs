@@ -23,14 +23,16 @@ impl Heap {
         self.slots()?;
         let (p, m) = (Parts::read(self.header()), self.memory());
         // SAFETY: the heap is known to be well formed (`held`). Pointers lead to as many elements as said, and the call only reads what they lead to.
-        Ok(unsafe {
+        #[rustfmt::skip]
+        let figures = unsafe {
             held::yexwalu_held_figures(
                 p.tag, p.numbers, p.log, p.lengths,
                 m.narrow.as_ptr().cast_mut(), m.narrow.len(),
                 m.wide.as_ptr().cast_mut(), m.wide.len(),
                 m.pool.as_ptr().cast_mut(), m.pool.len(),
             )
-        })
+        };
+        Ok(figures)
     }
 }
 
@@ -47,7 +49,7 @@ impl Figures {
     /// ```
     #[must_use]
     pub fn and(self, other: Figures) -> Figures {
-        // SAFETY: the call takes two values and answers one.
+        // SAFETY: the call takes two values and answers one. It has no `requires`.
         unsafe { held::yexwalu_held_figures_and(self, other) }
     }
 

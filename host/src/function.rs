@@ -270,6 +270,7 @@ impl Function {
     /// ```
     pub fn live_at_into(&self, pc: u32, wanted: Wanted, regs: &mut [u32], rows: &mut [u64]) -> Result<usize, Refusal> {
         // SAFETY: each pointer leads to as many elements as the length after it says. What the call writes, scratch and output, is borrowed mutably.
+        #[rustfmt::skip]
         let answer = unsafe {
             ffi::yexwalu_live_at(
                 self.kinds.as_ptr(), self.kinds.len(),
@@ -345,6 +346,7 @@ impl Function {
     /// ```
     pub fn live_refs_into(&self, wanted: Wanted, pcs: &mut [u32], bounds: &mut [u32], regs: &mut [u32], rows: &mut [u64]) -> Result<(usize, usize), Refusal> {
         // SAFETY: each pointer leads to as many elements as the length after it says. What the call writes, scratch and outputs, is borrowed mutably.
+        #[rustfmt::skip]
         let answer = unsafe {
             ffi::yexwalu_live_refs(
                 self.kinds.as_ptr(), self.kinds.len(),

@@ -898,7 +898,7 @@ impl Heap {
     /// smaller slot at the first place where they differ. Two objects that hold each other, and that nothing else keeps, need one root. Pins and wanted slots are strictly rising (14). Where no roots do it, 21.
     ///
     /// ```
-    /// use yexwalu::{Heap, Kind, Refusal, TypeTable};
+    /// use yexwalu::{Handle, Heap, Kind, Refusal, TypeTable};
     /// let mut table = TypeTable::new();
     /// let access = table.access();
     /// let mut heap = Heap::new(1, 64, 4096)?;
@@ -907,6 +907,9 @@ impl Heap {
     /// heap.alloc(Kind::Bytes, b"other")?;
     /// let (held, root_slot) = (heap.resolve(held)?, heap.resolve(root)?);
     /// assert_eq!(heap.roots_for(&table, &[], &[held, root_slot])?, [root]);
+    /// // the same into a lent list
+    /// let mut out = [Handle::NULL; 2];
+    /// assert_eq!((heap.roots_for_into(&table, &[], &[held, root_slot], &mut out)?, out[0]), (1, root));
     /// assert_eq!(heap.roots_for(&table, &[], &[root_slot]), Err(Refusal::NoRoots));
     /// # Ok::<(), Refusal>(())
     /// ```
@@ -1011,6 +1014,21 @@ impl Heap {
 
     /// As `collect_joined`, with lent scratch for the live map: `Function::scratch_words` at least (18). The addresses are lent as one list: address, slot index, address, slot index, and so on (14
     /// where it is not in pairs). Any index is taken.
+    ///
+    /// ```
+    /// use yexwalu::{Class, Function, Heap, InstKind, Kind, Refusal, TypeTable};
+    /// let mut f = Function::new();
+    /// let used = f.register(Class::Handle);
+    /// let call = f.instruction(InstKind::Safepoint, &[], &[], &[]);
+    /// f.instruction(InstKind::Return, &[], &[used], &[]);
+    /// f.block(0, 2);
+    /// let mut heap = Heap::new(1, 64, 4096)?;
+    /// let (kept, lost) = (heap.alloc(Kind::Bytes, b"kept")?, heap.alloc(Kind::Bytes, b"lost")?);
+    /// let mut rows = vec![0; f.scratch_words()];
+    /// heap.collect_joined_with(&TypeTable::new(), &f, call, &[kept.0], &[], &[], &[], &[], &mut rows)?;
+    /// assert_eq!((heap.resolve(kept).is_ok(), heap.resolve(lost)), (true, Err(Refusal::Stale)));
+    /// # Ok::<(), Refusal>(())
+    /// ```
     #[allow(clippy::too_many_arguments)]
     pub fn collect_joined_with(
         &mut self,
@@ -1052,6 +1070,9 @@ impl Heap {
     /// heap.run(b"alloc,0,2,4142\nalloc,0,2,6c6f7374\ntake,72057598332895233,0,\nseal,0,0,\nrecycle,0,0,\n")?;
     /// assert_eq!(heap.data(0)?, b"AB");
     /// assert_eq!((heap.slots()?, heap.live()?, heap.has_quarantine()?), (2, 1, false));
+    /// // with lent room
+    /// assert_eq!(heap.run_with(b"seal,0,0,\n", &mut [0; 4095]), Err(Refusal::Scratch));
+    /// heap.run_with(b"seal,0,0,\n", &mut [0; 4096])?;
     /// assert_eq!(heap.run(b"alloc,0,2,43\nfree,0,0,\n"), Err(Refusal::Page));
     /// assert_eq!(heap.live()?, 2);
     /// # Ok::<(), Refusal>(())
@@ -1299,6 +1320,10 @@ impl Heap {
     /// let two: Vec<u8> = [7u64, 8].iter().flat_map(|x| x.to_le_bytes()).collect();
     /// let both = heap.alloc(Kind::Typed(pair), &two)?;
     /// assert_eq!(heap.slot_handles(&table, heap.resolve(both)?)?, [Handle(7), Handle(8)]);
+    /// // the same into a lent list
+    /// let mut out = [Handle::NULL; 4];
+    /// let n = heap.slot_handles_into(&table, heap.resolve(both)?, &mut out)?;
+    /// assert_eq!(out[..n], [Handle(7), Handle(8)]);
     /// # Ok::<(), Refusal>(())
     /// ```
     pub fn slot_handles(&self, types: &(impl AnyTable + ?Sized), slot: impl Into<Slot>) -> Result<Vec<Handle>, Refusal> {
@@ -1310,16 +1335,6 @@ impl Heap {
     }
 
     /// As `slot_handles`, with the handles written to the front of a lent list (7). The answer is how many.
-    ///
-    /// ```
-    /// use yexwalu::{Handle, Heap, Kind, Refusal, TypeTable};
-    /// let mut heap = Heap::new(1, 64, 4096)?;
-    /// heap.alloc(Kind::Handles, &[0, 0, 0, 7, 8u64].map(u64::to_le_bytes).concat())?;
-    /// let mut out = [Handle::NULL; 4];
-    /// let n = heap.slot_handles_into(&TypeTable::new(), 0, &mut out)?;
-    /// assert_eq!(out[..n], [Handle(7), Handle(8)]);
-    /// # Ok::<(), Refusal>(())
-    /// ```
     pub fn slot_handles_into(&self, types: &(impl AnyTable + ?Sized), slot: impl Into<Slot>, out: &mut [Handle]) -> Result<usize, Refusal> {
         let slot = slot.into().at();
         let answer = ask_typed!(self, types, yexwalu_held_slot_handles(slot, out.as_mut_ptr().cast(), out.len()) |_s| (), yexwalu_slot_handles);

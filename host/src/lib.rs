@@ -2,14 +2,20 @@
 //!
 //! The work is done by the archive `libyexwalu.a` (see `build.rs`). It allocates nothing: this crate owns the memory and lends it call by call.
 //!
-//! A [`Heap`] has objects, which are found by a [`Handle`]. A [`TypeTable`] says where in an object other handles stand, and a [`Function`] which registers are still needed where a run was stopped: a
-//! collection goes by both. A call that is not done says why by a [`Refusal`]: the number that document 01, "The access heap of a saved run", gives it. Numbers in parentheses are these.
+//! A page is opened, and its objects are read:
 //!
-//! [`Heap::write_page`] saves a heap as a page of text, [`Heap::open`] opens one; [`Heap::page_with`] writes the objects in byte planes, which often pack better. [`TypeTable::write_text`] saves the table beside it, and [`Heap::misfit`]
-//! tells whether the two fit together. A heap is checked when it is read, not call by call ([`Heap`]). [`Heap::view`] reads many objects, [`Heap::run`] makes many calls from a text. A type table is checked by each call that takes it, or once ([`CheckedTable`]). [`Heap::collect`] drops what no root leads to, and
-//! [`Heap::roots_for`] tells which roots keep just the objects that are wanted. [`Heap::same`] tells whether two heaps hold the same model under whatever slot numbers, and [`Heap::order`] which comes first. The folder `examples` makes, saves, opens, collects and compares heaps; the command `yexwalu` answers questions about pages, and writes them in the form of today.
+//! ```
+//! use yexwalu::{Heap, TypeTable};
+//! let heap = Heap::open(&std::fs::read("../docs/samples/handles.page")?)?;
+//! let (mut lines, types) = (Vec::new(), TypeTable::new());
+//! for object in heap.view()? {
+//!     lines.push(format!("slot {}: {} bytes, {} handles", object.slot(), object.bytes().len(), object.handles(&types)?.len()));
+//! }
+//! assert_eq!(lines, ["slot 0: 2 bytes, 0 handles", "slot 1: 32 bytes, 1 handles"]);
+//! # Ok::<(), Box<dyn std::error::Error>>(())
+//! ```
 //!
-//! Cases and fields may be added to most types here ([`Handle`], [`Slot`] and [`Direction`] stay as they are), so a host makes them by functions and matches with a last `_`. What a version changed stands in docs/CHANGES.md of the repository, what is proved and what is not in host/README.md. The terms are those of the MIT licence, as LICENSE has them.
+//! And a heap is made, and changed:
 //!
 //! ```
 //! use yexwalu::{Heap, Kind, Refusal};
@@ -23,14 +29,35 @@
 //! assert_eq!(heap.live()?, 0);
 //! # Ok::<(), Refusal>(())
 //! ```
+//!
+//! A [`Heap`] has objects, which are found by a [`Handle`]. A [`TypeTable`] says where in an object other handles stand, and a [`Function`] which registers are still needed where a run was stopped: a
+//! collection goes by both. A call that is not done says why by a [`Refusal`]: the number that document 01, "The access heap of a saved run", gives it. Numbers in parentheses are these.
+//!
+//! | To | Take |
+//! |---|---|
+//! | save a heap as a page of text, and open it | [`Heap::write_page`], [`Heap::open`]; [`Heap::page_with`] for byte planes, which often pack better |
+//! | save the type table beside it, and see that the two fit together | [`TypeTable::write_text`], [`Heap::misfit`] |
+//! | read many objects and their handles | [`Heap::view`] |
+//! | make many calls from a text | [`Heap::run`] |
+//! | drop what no root leads to | [`Heap::collect`]; [`Heap::roots_for`] tells which roots keep just the objects that are wanted |
+//! | compare two heaps under whatever slot numbers, and sort them | [`Heap::same`], [`Heap::order`] |
+//! | tell a person where a text stops being a page | [`page_stops`] |
+//!
+//! A heap is checked when it is read, not call by call ([`Heap`]). A type table is checked by each call that takes it, or once ([`CheckedTable`]). The folder `examples` makes, saves, opens, collects and compares heaps; the command `yexwalu` answers questions about pages, and writes them in the form of today.
+//!
+//! Cases and fields may be added to most types here ([`Handle`], [`Slot`] and [`Direction`] stay as they are), so a host makes them by functions and matches with a last `_`. What a version changed stands in CHANGES.md, what is proved and what is not in README.md. The terms are those of the MIT licence, as LICENSE has them.
 #![warn(missing_docs)]
 
+#[rustfmt::skip]
 mod checked;
+#[rustfmt::skip]
 pub mod ffi;
 mod figures;
 mod function;
 mod handle;
+#[rustfmt::skip]
 mod heap;
+#[rustfmt::skip]
 mod held;
 mod lists;
 mod open;

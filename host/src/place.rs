@@ -23,11 +23,7 @@ impl Place {
     fn of(text: &[u8], offset: usize) -> Place {
         let before = &text[..offset];
         let start = before.iter().rposition(|b| *b == b'\n').map_or(0, |i| i + 1);
-        Place {
-            offset,
-            line: before.iter().filter(|b| **b == b'\n').count() + 1,
-            column: offset - start + 1,
-        }
+        Place { offset, line: before.iter().filter(|b| **b == b'\n').count() + 1, column: offset - start + 1 }
     }
 }
 
@@ -60,12 +56,7 @@ pub fn page_stops(text: &[u8]) -> Option<Place> {
 
 // The names of the head (docs/FORMAT.md, section 14); what stands after `slots` are the lists, in their order.
 const HEADS: [&str; 2] = ["tag,since_gc,reclaim_at,live_bytes,slots,free,quarantine,sealed,retired", "tag,since_gc,reclaim_at,live_bytes,slots,free,quarantine,sealed"];
-const SLOTS: [&str; 4] = [
-    "generation,kind,type,start,writes64,data",
-    "generation,kind,type,start,writes,data",
-    "generation,kind,type,start,writes64,planes",
-    "generation,kind,type,start,writes,planes",
-];
+const SLOTS: [&str; 4] = ["generation,kind,type,start,writes64,data", "generation,kind,type,start,writes,data", "generation,kind,type,start,writes64,planes", "generation,kind,type,start,writes,planes"];
 
 // The width of a number by its name: of the head, a slot's line, or a list's entry.
 fn bits(name: &str) -> u32 {

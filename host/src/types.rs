@@ -120,14 +120,7 @@ pub struct Layout {
 impl ffi::RawLayout {
     // The layout of these numbers and offsets.
     pub(crate) fn with(self, offsets: Vec<u64>) -> Layout {
-        Layout {
-            size: self.size,
-            align: self.align,
-            stride: self.stride,
-            count: self.count,
-            used: self.used as usize,
-            offsets,
-        }
+        Layout { size: self.size, align: self.align, stride: self.stride, count: self.count, used: self.used as usize, offsets }
     }
 }
 
@@ -575,8 +568,7 @@ impl TypeTable {
     /// ```
     pub fn slot_roots_into(&self, map: &[FrameSlot], memory: &[u8], handles: &mut [Handle], addresses: &mut [u64]) -> Result<(usize, usize), Refusal> {
         let map = FrameSlot::words(map);
-        let answer = on_table!(self, yexwalu_slot_roots(
-            map.as_ptr(), map.len(), memory.as_ptr(), memory.len(), handles.as_mut_ptr().cast(), handles.len(), addresses.as_mut_ptr(), addresses.len()));
+        let answer = on_table!(self, yexwalu_slot_roots(map.as_ptr(), map.len(), memory.as_ptr(), memory.len(), handles.as_mut_ptr().cast(), handles.len(), addresses.as_mut_ptr(), addresses.len()));
         Refusal::check(answer.number)?;
         Ok((answer.first as usize, answer.second as usize))
     }
@@ -649,15 +641,11 @@ impl TypeTable {
     /// ```
     pub fn read_text(text: &[u8]) -> Result<(TypeTable, Vec<u8>), Refusal> {
         // as much as a table takes at most; a byte of a constant takes two of the text
-        let mut table = TypeTable {
-            types: vec![0; 16384],
-            fields: vec![0; 32768],
-            consts: vec![0; 12288],
-            bytes: vec![0; text.len() / 2],
-        };
+        let mut table = TypeTable { types: vec![0; 16384], fields: vec![0; 32768], consts: vec![0; 12288], bytes: vec![0; text.len() / 2] };
         let mut names = vec![0; text.len()];
         let (mut words, mut halves) = (vec![0u64; 28672], vec![0u32; 32768]);
         // SAFETY: each pointer leads to as many elements as the length after it says, and what the call writes is lent once.
+        #[rustfmt::skip]
         let read = unsafe {
             ffi::yexwalu_read_table(
                 table.types.as_mut_ptr(), table.types.len(),

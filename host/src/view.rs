@@ -140,10 +140,7 @@ impl<'a> View<'a> {
             tag: self.header.tag,
             slot,
             kind: Kind::of(kind.into(), self.ty[i].into()),
-            stamp: Stamp {
-                generation: self.generation[i],
-                writes: self.writes[i],
-            },
+            stamp: Stamp { generation: self.generation[i], writes: self.writes[i] },
             start: self.start[i],
             bytes: &self.pool[from as usize..self.end[i] as usize],
         })

@@ -14,21 +14,11 @@ struct Ran {
 }
 
 fn run_with(words: &[&str], input: &[u8]) -> Ran {
-    let mut child = Command::new(env!("CARGO_BIN_EXE_yexwalu"))
-        .args(words)
-        .stdin(Stdio::piped())
-        .stdout(Stdio::piped())
-        .stderr(Stdio::piped())
-        .spawn()
-        .unwrap();
+    let mut child = Command::new(env!("CARGO_BIN_EXE_yexwalu")).args(words).stdin(Stdio::piped()).stdout(Stdio::piped()).stderr(Stdio::piped()).spawn().unwrap();
     // a command that does not read its input closes it
     let _ = child.stdin.take().unwrap().write_all(input);
     let done = child.wait_with_output().unwrap();
-    Ran {
-        status: done.status.code().unwrap(),
-        out: String::from_utf8(done.stdout).unwrap(),
-        err: String::from_utf8(done.stderr).unwrap(),
-    }
+    Ran { status: done.status.code().unwrap(), out: String::from_utf8(done.stdout).unwrap(), err: String::from_utf8(done.stderr).unwrap() }
 }
 
 fn run(words: &[&str]) -> Ran {
@@ -259,12 +249,23 @@ fn show_goes_by_a_type_table() {
 #[test]
 fn show_refuses_what_is_no_type_table() {
     let page = samples("record.page");
-    for (name, status, why) in [("17-comma.table", 1, "17 page: no type table to go by\n"), ("10-class.table", 1, "10 type table: no type table to go by\n"), ("bytes.page", 1, "17 page: "), ("none.table", 2, "")] {
+    for (name, status, why) in
+        [("17-comma.table", 1, "17 page: no type table to go by\n"), ("10-class.table", 1, "10 type table: no type table to go by\n"), ("bytes.page", 1, "17 page: no type table to go by: it begins as a page does\n"), ("none.table", 2, "")]
+    {
         let table = samples(name);
         let ran = run(&["show", "--types", &table, &page]);
         assert_eq!((ran.status, ran.out.as_str()), (status, ""), "{name}");
         assert!(ran.err.starts_with(&format!("yexwalu: {table}: {why}")), "{}", ran.err);
     }
+}
+
+#[test]
+fn a_type_table_with_line_ends_of_windows() {
+    let (page, text) = (samples("record.page"), fs::read_to_string(samples("record.table")).unwrap());
+    let table = file("windows.table", text.replace('\n', "\r\n").as_bytes());
+    let why = "no type table to go by: lines end as on Windows in it, in bytes 13 and 10, not in 10 alone";
+    assert_eq!(said(run(&["show", "--types", &table, &page])), (1, String::new(), format!("yexwalu: {table}: 17 page: {why}\n")));
+    fs::remove_file(table).unwrap();
 }
 
 #[test]
@@ -421,13 +422,7 @@ fn same_compares_what_is_sealed() {
     more.alloc(Kind::Typed(9), b"nobody looks here").unwrap();
     let more = file("same-c.page", &more.write_page().unwrap());
     let other = file("same-d.page", &model(2, b"hull").write_page().unwrap());
-    for (a, b, expected) in [
-        (&first, &first, says(0, "same\n")),
-        (&first, &planes, says(0, "same\n")),
-        (&planes, &more, says(0, "same\n")),
-        (&first, &other, says(1, "different: less\n")),
-        (&other, &more, says(1, "different: greater\n")),
-    ] {
+    for (a, b, expected) in [(&first, &first, says(0, "same\n")), (&first, &planes, says(0, "same\n")), (&planes, &more, says(0, "same\n")), (&first, &other, says(1, "different: less\n")), (&other, &more, says(1, "different: greater\n"))] {
         assert_eq!(said(run(&["same", a, b])), expected, "{a} {b}");
     }
     // one of them is standard input
@@ -502,7 +497,7 @@ fn same_says_all_that_is_wrong() {
     // a page without seals needs roots, whichever of the two it is
     let bytes = samples("bytes.page");
     for (a, b, option) in [(&bytes, &good, "--roots"), (&good, &bytes, "--roots-b")] {
-        let expected = format!("yexwalu: {bytes}: nothing is sealed in it, so its roots are to be given: {option} H,H..\nyexwalu --help says more.\n");
+        let expected = format!("yexwalu: {bytes}: nothing is sealed in it, so its roots are to be given: {option} H,H..\nyexwalu same --help says more.\n");
         assert_eq!(said(run(&["same", a, b])), (2, String::new(), expected));
         assert_eq!(said(run(&["same", a, b, option, "72057594037927937"])), says(1, if option == "--roots" { "different: less\n" } else { "different: greater\n" }));
     }
@@ -628,8 +623,8 @@ fn help_and_version() {
     let help = |words: &[&str]| {
         let ran = run(words);
         assert_eq!((ran.status, ran.err.as_str()), (0, ""), "{words:?}");
-        // a line has room on a terminal of 112 columns
-        assert!(ran.out.lines().all(|line| line.len() <= 112) && ran.out.ends_with('\n'), "{words:?}");
+        // a line is no wider than a window is as a rule
+        assert!(ran.out.lines().all(|line| line.len() <= 110) && ran.out.ends_with('\n'), "{words:?}");
         ran.out
     };
     let all = help(&["--help"]);
@@ -640,7 +635,7 @@ fn help_and_version() {
         assert!(all.contains(&format!("    yexwalu {command} ")), "{command}");
         // of one command: that alone
         let one = help(&[command, "--help"]);
-        assert!(one.starts_with(&format!("yexwalu {command} ")) && one != all, "{command}");
+        assert!(one.starts_with(&format!("yexwalu {command} ")) && one.contains("\nExit status: 0 ") && one != all, "{command}");
         for words in [&["help", command][..], &[command, "-h"], &[command, "none", "--none", "--help"]] {
             assert_eq!(help(words), one, "{words:?}");
         }
@@ -712,7 +707,9 @@ fn bad_usage_is_2() {
     for words in commands.iter().chain(&options).chain(&columns).chain(&saves) {
         let ran = run(words);
         assert_eq!((ran.status, ran.out.as_str()), (2, ""), "{words:?}");
-        assert!(ran.err.starts_with("yexwalu: ") && ran.err.ends_with("yexwalu --help says more.\n"), "{words:?}");
+        // by its second line it leads on to the help of the command, where there is such a one
+        let command = words.first().filter(|word| COMMANDS.contains(word)).map_or(String::new(), |word| format!("{word} "));
+        assert!(ran.err.starts_with("yexwalu: ") && ran.err.ends_with(&format!("\nyexwalu {command}--help says more.\n")) && ran.err.lines().count() == 2, "{words:?}");
     }
 }
 
@@ -733,7 +730,7 @@ fn each_with(file: &str) -> Vec<Vec<&str>> {
 #[test]
 fn what_cannot_be_read_is_2_and_is_named() {
     let locked = file("locked.page", b"");
-    fs::set_permissions(&locked, std::os::unix::fs::PermissionsExt::from_mode(0)).unwrap();
+    fs::set_permissions(&locked, std::os::unix::fs::PermissionsExt::from_mode(0o000)).unwrap();
     let endless = file("endless.page", b"");
     // nothing of it is on the disk
     fs::File::options().write(true).open(&endless).unwrap().set_len(5 << 30).unwrap();
@@ -762,10 +759,10 @@ fn what_is_no_page_is_1_and_is_named() {
     fs::File::options().write(true).open(&zeros).unwrap().set_len(100 << 20).unwrap();
     let cases = [
         (file("nothing.page", b""), "line 1, column 1 on, where it ends"),
-        (file("windows.page", page.replace('\n', "\r\n").as_bytes()), "line 1, column 74 on, where a line ends as on Windows: in bytes 13 and 10, not in 10 alone"),
+        (file("windows.page", page.replace('\n', "\r\n").as_bytes()), "line 1, column 72 on, where a line ends as on Windows: in bytes 13 and 10, not in 10 alone"),
         (file("marked.page", format!("\u{feff}{page}").as_bytes()), "line 1, column 1 on, where a byte order mark stands"),
-        (file("unended.page", page.trim_end().as_bytes()), "line 14, column 8 on, where it ends"),
-        (file("twice.page", page.repeat(2).as_bytes()), "line 15, column 1 on"),
+        (file("unended.page", page.trim_end().as_bytes()), "line 13, column 8 on, where it ends"),
+        (file("twice.page", page.repeat(2).as_bytes()), "line 14, column 1 on"),
         (file("noise.page", &[0xfe; 40]), "line 1, column 1 on"),
         (samples("record.table"), "line 1, column 2 on: it begins as a type table does"),
         (zeros, "line 1, column 1 on"),
@@ -810,8 +807,8 @@ fn a_very_long_line() {
 fn one_name_twice() {
     let page = samples("handles.page");
     for words in [&["check", "-", "-"][..], &["shelf", "-", &page, "-"], &["show", "--types", "-", "-"], &["same", "-", "-"], &["same", "--types", "-", "-", &page], &["check", "--", "-", "-"]] {
-        let expected = "yexwalu: standard input can be one of the files, not several\nyexwalu --help says more.\n";
-        assert_eq!(said(run_with(words, b"")), (2, String::new(), expected.into()), "{words:?}");
+        let expected = format!("yexwalu: standard input can be one of the files, not several\nyexwalu {} --help says more.\n", words[0]);
+        assert_eq!(said(run_with(words, b"")), (2, String::new(), expected), "{words:?}");
     }
     assert_eq!(run(&["check", &page, &page]).out, format!("{page}: accepted: writes64, data, retired\n").repeat(2));
     assert_eq!(said(run(&["same", &page, &page])), says(0, "same\n"));
@@ -831,6 +828,15 @@ fn an_answer_that_cannot_be_written_is_2() {
         let done = Command::new(env!("CARGO_BIN_EXE_yexwalu")).args(&words).stdout(full).output().unwrap();
         assert_eq!((done.status.code(), String::from_utf8(done.stderr).unwrap().as_str()), (Some(2), "yexwalu: standard output: No space left on device\n"), "{words:?}");
     }
+}
+
+// `/dev/zero` has no end.
+#[cfg(target_os = "linux")]
+#[test]
+fn too_little_memory_is_2() {
+    let command = format!("ulimit -v 600000 && exec '{}' check /dev/zero", env!("CARGO_BIN_EXE_yexwalu"));
+    let done = Command::new("sh").args(["-c", &command]).output().unwrap();
+    assert_eq!((done.status.code(), String::from_utf8(done.stderr).unwrap().as_str()), (Some(2), "yexwalu: /dev/zero: out of memory\n"));
 }
 
 // What would steer a terminal, or begin a line, is no part of what is said.
@@ -865,10 +871,13 @@ fn names_that_begin_with_a_dash() {
         let (status, out, err) = here(&["show", "--", word]);
         assert!(status == 2 && out.is_empty() && err.starts_with(&format!("yexwalu: {word}: ")), "{word}: {err}");
     }
-    let usage = |why: &str| (2, String::new(), format!("yexwalu: {why}\nyexwalu --help says more.\n"));
-    assert_eq!(here(&["check", "-old.page"]), usage("check has no option -old.page"));
-    assert_eq!(here(&["check", "--"]), usage("check takes files"));
-    assert_eq!(here(&["--", "check", "./-old.page"]), usage("no command --"));
+    let usage = |why: &str, command: &str| (2, String::new(), format!("yexwalu: {why}\nyexwalu {command}--help says more.\n"));
+    assert_eq!(here(&["check", "-old.page"]), usage("check has no option -old.page", "check "));
+    assert_eq!(here(&["check", "--"]), usage("check takes files", "check "));
+    let all = COMMANDS.join(", ");
+    assert_eq!(here(&["--", "check", "./-old.page"]), usage(&format!("no command --; there are {all}"), ""));
+    assert_eq!(here(&["chek", "--none", "./-old.page"]), usage(&format!("no command chek; there are {all}"), ""));
+    assert_eq!(here(&[]), usage(&format!("a command is missing: {all}"), ""));
     fs::remove_dir_all(folder).unwrap();
 }
 
@@ -909,7 +918,9 @@ fn who_stops_reading_changes_no_answer() {
     let many = [&["shelf"][..], &vec![good.as_str(); 1000], &[bad.as_str()]].concat();
     all(&many, 1);
     // what is said on standard error alone
-    for (words, status) in [(&["show", &bad][..], 1), (&["length", &bad], 1), (&["show", "--types", &bad, &good], 1), (&["same", &bad, &bad], 1), (&["check", "none"], 2), (&["check"], 2), (&["look"], 2), (&["convert", "--data", "-o", &good, &good], 2)] {
+    for (words, status) in
+        [(&["show", &bad][..], 1), (&["length", &bad], 1), (&["show", "--types", &bad, &good], 1), (&["same", &bad, &bad], 1), (&["check", "none"], 2), (&["check"], 2), (&["look"], 2), (&["convert", "--data", "-o", &good, &good], 2)]
+    {
         assert_eq!(unheard(words, b"", true), (Some(status), String::new()), "{words:?}");
     }
 }

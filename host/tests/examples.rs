@@ -1,4 +1,4 @@
-//! The examples run, and say what they should. Cargo builds them before the tests.
+//! The examples run, and say what they should; Cargo builds them before the tests. Those in the crate's pages, which `cargo test` runs too, name every public item.
 use std::path::PathBuf;
 use std::process::Command;
 use std::{env, fs, process};
@@ -46,4 +46,46 @@ fn compare() {
     let (status, out, _) = run("compare", &[]);
     assert_eq!(status, Some(0));
     assert_eq!(out, "first save: 261 bytes, root in slot 1; second save: 274 bytes, root in slot 2\nthe same model? true\nafter a change: the same model? false, Less\nin order: [\"hall\", \"hall\", \"hull\"]\n", "{out}");
+}
+
+// The public items of a source that have no example of their own: a function with the bracket that follows its name. What a macro names is told where the macro is used.
+fn items_without(source: &str) -> (usize, Vec<String>) {
+    let (mut all, mut without, mut example) = (0, Vec::new(), false);
+    for line in source.lines().map(str::trim) {
+        if line.starts_with("//") || line.starts_with("#[") {
+            example |= line.starts_with("/// ```");
+            continue;
+        }
+        let mut words = line.strip_prefix("pub ").unwrap_or("").split([' ', ':', '<', ';', '(']);
+        let item = match (words.next(), words.next()) {
+            (Some("fn"), Some(name)) if !name.starts_with('$') => format!("{name}("),
+            (Some("struct" | "enum" | "const"), Some(name)) => name.to_string(),
+            _ => String::new(),
+        };
+        if !item.is_empty() {
+            all += 1;
+            without.extend((!example).then_some(item));
+        }
+        example = false;
+    }
+    (all, without)
+}
+
+// It has one of its own, or stands in that of another: a getter in that of its type. The exported calls as they are (`ffi`) are left out, which the methods lend what they take.
+#[test]
+fn every_public_item_is_in_an_example() {
+    let files = fs::read_dir(format!("{}/src", env!("CARGO_MANIFEST_DIR"))).unwrap().map(|f| f.unwrap().path());
+    let sources: Vec<String> = files.filter(|f| f.is_file() && !f.ends_with("held.rs") && !f.ends_with("ffi.rs")).map(|f| fs::read_to_string(f).unwrap()).collect();
+    let (mut examples, mut inside) = (String::new(), false);
+    for line in sources.iter().flat_map(|source| source.lines()) {
+        if let Some(line) = line.trim().strip_prefix("///").or(line.strip_prefix("//!")) {
+            inside ^= line.trim().starts_with("```");
+            examples.push_str(if inside { line } else { "" });
+        }
+    }
+    let (all, without): (Vec<usize>, Vec<Vec<String>>) = sources.iter().map(|source| items_without(source)).unzip();
+    assert!(all.iter().sum::<usize>() > 130, "{all:?}");
+    let missing: Vec<String> = without.concat().into_iter().filter(|item| !examples.contains(item)).collect();
+    assert!(missing.is_empty(), "in no example: {missing:?}");
+    println!("{} items, {} of them in the example of another", all.iter().sum::<usize>(), without.concat().len());
 }

@@ -54,8 +54,9 @@ fn exports() -> String {
     source_of("yexwalu_c")
 }
 
+// But for the words about the module, in which calls are named too.
 fn ffi() -> String {
-    text("host/src/ffi.rs")
+    text("host/src/ffi.rs").lines().filter(|line| !line.starts_with("//!")).flat_map(|line| [line, "\n"]).collect()
 }
 
 fn header() -> String {

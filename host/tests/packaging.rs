@@ -31,6 +31,19 @@ fn the_licence_is_there() {
     assert!(text("../NOTICE").ends_with(terms));
 }
 
+// What is handed on has the terms and the changes with it, though they stand elsewhere in the repository.
+#[test]
+fn the_package_has_what_belongs_to_it() {
+    let listed = Command::new(env!("CARGO")).args(["package", "--list", "--allow-dirty", "--offline"]).current_dir(env!("CARGO_MANIFEST_DIR")).output().unwrap();
+    let listed = String::from_utf8(listed.stdout).unwrap();
+    for name in ["LICENSE", "NOTICE", "CHANGES.md", "README.md", "include/yexwalu.h", "build.rs"] {
+        assert!(listed.lines().any(|line| line == name), "{name} is not in the package:\n{listed}");
+    }
+    for (here, there) in [("LICENSE", "../LICENSE"), ("NOTICE", "../NOTICE"), ("CHANGES.md", "../docs/CHANGES.md")] {
+        assert_eq!(text(here), text(there));
+    }
+}
+
 // What the command says at the top of the repository, by its words and what it reads.
 fn ran(input: Vec<u8>, command: &str) -> Vec<u8> {
     let top = format!("{}/..", env!("CARGO_MANIFEST_DIR"));
@@ -40,17 +53,49 @@ fn ran(input: Vec<u8>, command: &str) -> Vec<u8> {
     child.wait_with_output().unwrap().stdout
 }
 
+// The commands that this page shows, each with the lines under it, which are indented; empty ones among them count.
+fn transcript(page: &str) -> Vec<(&str, String)> {
+    let mut steps: Vec<(&str, String)> = Vec::new();
+    let mut shown = false;
+    for line in page.lines() {
+        if let Some(command) = line.strip_prefix("    $ yexwalu ") {
+            steps.push((command, String::new()));
+            shown = true;
+        } else if shown && (line.is_empty() || line.starts_with("    ")) {
+            let answer = &mut steps.last_mut().unwrap().1;
+            answer.push_str(line.strip_prefix("    ").unwrap_or(line));
+            answer.push('\n');
+        } else {
+            shown = false;
+        }
+    }
+    steps
+}
+
 #[test]
 fn the_readme_shows_what_the_command_says() {
     let readme = text("README.md");
-    let transcript = readme.split_once("    $ yexwalu ").unwrap().1.split("\n\n").next().unwrap();
-    for step in transcript.split("    $ yexwalu ") {
-        let (command, answer) = step.split_once('\n').unwrap();
+    let steps = transcript(&readme);
+    assert!(steps.len() > 12);
+    for (command, shown) in steps {
         // each command reads what the one before it says
         let said = command.split(" | yexwalu ").fold(Vec::new(), ran);
-        let shown: String = String::from_utf8(said).unwrap().lines().map(|l| format!("    {l}\n")).collect();
-        assert_eq!(shown.trim_end(), format!("{answer}\n").trim_end(), "{command}");
+        assert_eq!(shown.trim_end(), String::from_utf8(said).unwrap().trim_end(), "{command}");
     }
+}
+
+// The first command of all, which asks for Python alone.
+#[test]
+fn the_first_command_prints_what_the_page_says() {
+    let page = text("../README.md");
+    let (command, rest) = page.split_once("\n    python3 ").unwrap().1.split_once('\n').unwrap();
+    let shown: Vec<&str> = rest.lines().skip_while(|l| !l.starts_with("    ")).map_while(|l| l.strip_prefix("    ")).collect();
+    let top = format!("{}/..", env!("CARGO_MANIFEST_DIR"));
+    let Ok(done) = Command::new("python3").args(command.split(' ')).current_dir(top).output() else {
+        println!("no python3: not tried");
+        return;
+    };
+    assert_eq!(String::from_utf8(done.stdout).unwrap().lines().collect::<Vec<_>>(), shown);
 }
 
 // The words that `bench` takes, as they stand in its source and in the document.

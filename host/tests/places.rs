@@ -7,12 +7,8 @@ use yexwalu::{page_stops, Column, Heap, Refusal};
 
 fn samples() -> Vec<(String, Vec<u8>)> {
     let folder = Path::new(env!("CARGO_MANIFEST_DIR")).join("../docs/samples");
-    let mut all: Vec<(String, Vec<u8>)> = fs::read_dir(folder)
-        .unwrap()
-        .map(|f| f.unwrap().path())
-        .filter(|p| p.extension().is_some_and(|e| e == "page"))
-        .map(|p| (p.file_name().unwrap().to_string_lossy().into_owned(), fs::read(p).unwrap()))
-        .collect();
+    let mut all: Vec<(String, Vec<u8>)> =
+        fs::read_dir(folder).unwrap().map(|f| f.unwrap().path()).filter(|p| p.extension().is_some_and(|e| e == "page")).map(|p| (p.file_name().unwrap().to_string_lossy().into_owned(), fs::read(p).unwrap())).collect();
     for column in [Column::Data, Column::Planes] {
         all.push((format!("the tests' heap with {column}"), sample(8, 64).0.page_with(column).unwrap()));
     }

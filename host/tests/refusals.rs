@@ -2,7 +2,7 @@
 //! it was.
 mod common;
 use common::{sample, scratch};
-use yexwalu::{Column, descriptor, ffi, Class, Direction, FrameSlot, Function, Handle, Header, Heap, InstKind, Kind, Memory, Refusal, Scratch, Slot, TypeTable, Wanted};
+use yexwalu::{descriptor, ffi, Class, Column, Direction, FrameSlot, Function, Handle, Header, Heap, InstKind, Kind, Memory, Refusal, Scratch, Slot, TypeTable, Wanted};
 
 type Call = (&'static str, fn(&mut Heap) -> Result<(), Refusal>);
 
@@ -194,18 +194,8 @@ fn a_pool_one_short_of_the_data_is_1() {
 #[test]
 fn a_header_out_of_its_range_is_1() {
     let (header, memory, _) = sample(8, 64).0.into_parts();
-    let changes: [fn(&mut Header); 10] = [
-        |h| h.slots = 9,
-        |h| h.slots = usize::MAX,
-        |h| h.free = 9,
-        |h| h.quarantine = 0,
-        |h| h.retired = 1,
-        |h| h.sealed = usize::MAX,
-        |h| h.reclaim_at = 4097,
-        |h| h.reclaim_at = 4094,
-        |h| h.reclaim_at = 33_554_434,
-        |h| h.tag = 8,
-    ];
+    let changes: [fn(&mut Header); 10] =
+        [|h| h.slots = 9, |h| h.slots = usize::MAX, |h| h.free = 9, |h| h.quarantine = 0, |h| h.retired = 1, |h| h.sealed = usize::MAX, |h| h.reclaim_at = 4097, |h| h.reclaim_at = 4094, |h| h.reclaim_at = 33_554_434, |h| h.tag = 8];
     let bad = changes.map(|change| {
         let mut bad = header;
         change(&mut bad);
@@ -259,12 +249,8 @@ fn an_object_beyond_all_memory_is_1() {
 
 // The calls on a handle, each one with the output that it needs, and a slot's bytes that the pool has no room for.
 #[allow(clippy::type_complexity)]
-const ON_A_HANDLE: [(&str, fn(&mut Heap, Handle) -> Result<(), Refusal>); 4] = [
-    ("resolve", |h, x| h.resolve(x).map(drop)),
-    ("edit", |h, x| h.edit(x, &[0; 999], 0).map(drop)),
-    ("take", |h, x| h.take_into(x, &mut []).map(drop)),
-    ("free", |h, x| h.free(x)),
-];
+const ON_A_HANDLE: [(&str, fn(&mut Heap, Handle) -> Result<(), Refusal>); 4] =
+    [("resolve", |h, x| h.resolve(x).map(drop)), ("edit", |h, x| h.edit(x, &[0; 999], 0).map(drop)), ("take", |h, x| h.take_into(x, &mut []).map(drop)), ("free", |h, x| h.free(x))];
 
 #[test]
 fn a_handle_that_leads_nowhere_is_2_3_19_or_4() {
@@ -554,8 +540,22 @@ fn frames_and_their_outputs() {
     for n in 0..=6 {
         let answer = unsafe {
             ffi::yexwalu_slot_roots(
-                table.types.as_ptr(), table.types.len(), table.fields.as_ptr(), table.fields.len(), table.consts.as_ptr(), table.consts.len(), table.bytes.as_ptr(), table.bytes.len(),
-                map.as_ptr(), n, memory.as_ptr(), memory.len(), found.as_mut_ptr(), found.len(), addresses.as_mut_ptr(), addresses.len(),
+                table.types.as_ptr(),
+                table.types.len(),
+                table.fields.as_ptr(),
+                table.fields.len(),
+                table.consts.as_ptr(),
+                table.consts.len(),
+                table.bytes.as_ptr(),
+                table.bytes.len(),
+                map.as_ptr(),
+                n,
+                memory.as_ptr(),
+                memory.len(),
+                found.as_mut_ptr(),
+                found.len(),
+                addresses.as_mut_ptr(),
+                addresses.len(),
             )
         };
         assert_eq!(answer.number, if n % 3 == 0 { 0 } else { 13 });

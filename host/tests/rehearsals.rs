@@ -195,20 +195,33 @@ fn rehearse(l: &mut Lent) -> ffi::Done {
     // SAFETY: each pointer leads to as many elements as the length after it says, and what the call writes is lent once.
     unsafe {
         ffi::yexwalu_rehearse(
-            l.types.as_ptr(), l.types.len(),
-            [].as_ptr(), 0,
-            [].as_ptr(), 0,
-            [].as_ptr(), 0,
+            l.types.as_ptr(),
+            l.types.len(),
+            [].as_ptr(),
+            0,
+            [].as_ptr(),
+            0,
+            [].as_ptr(),
+            0,
             header(),
-            l.narrow.as_mut_ptr(), l.narrow.len(),
-            l.wide.as_mut_ptr(), l.wide.len(),
-            l.pool.as_mut_ptr(), l.pool.len(),
-            l.text.as_ptr(), l.text.len(),
-            l.thresholds.as_ptr(), l.thresholds.len(),
-            l.out.as_mut_ptr(), l.out.len(),
-            l.words.as_mut_ptr(), l.words.len(),
-            l.marks.as_mut_ptr(), l.marks.len(),
-            l.work.as_mut_ptr(), l.work.len(),
+            l.narrow.as_mut_ptr(),
+            l.narrow.len(),
+            l.wide.as_mut_ptr(),
+            l.wide.len(),
+            l.pool.as_mut_ptr(),
+            l.pool.len(),
+            l.text.as_ptr(),
+            l.text.len(),
+            l.thresholds.as_ptr(),
+            l.thresholds.len(),
+            l.out.as_mut_ptr(),
+            l.out.len(),
+            l.words.as_mut_ptr(),
+            l.words.len(),
+            l.marks.as_mut_ptr(),
+            l.marks.len(),
+            l.work.as_mut_ptr(),
+            l.work.len(),
         )
     }
 }
@@ -233,13 +246,8 @@ fn refused(before: &Lent, why: Refusal) {
 fn refusals_come_in_order_and_change_nothing() {
     // one more each time, which is tested before those that are there
     type Fault = (Refusal, fn(&mut Lent));
-    let faults: [Fault; 5] = [
-        (Refusal::ShortList, |l| l.out.truncate(159)),
-        (Refusal::TypeTable, |l| l.types.truncate(3)),
-        (Refusal::BrokenHeap, |l| l.wide.truncate(15)),
-        (Refusal::Page, |l| l.text.truncate(20)),
-        (Refusal::Scratch, |l| l.words.truncate(7)),
-    ];
+    let faults: [Fault; 5] =
+        [(Refusal::ShortList, |l| l.out.truncate(159)), (Refusal::TypeTable, |l| l.types.truncate(3)), (Refusal::BrokenHeap, |l| l.wide.truncate(15)), (Refusal::Page, |l| l.text.truncate(20)), (Refusal::Scratch, |l| l.words.truncate(7))];
     let mut lent = enough();
     for (why, spoil) in faults {
         spoil(&mut lent);

@@ -17,16 +17,7 @@ enum Type {
     Array(u32),
 }
 
-const TYPES: [Type; 8] = [
-    Type::Byte,
-    Type::Real,
-    Type::Access,
-    Type::Record(&[0, 2, 1]),
-    Type::Array(2),
-    Type::Array(3),
-    Type::Record(&[1, 7, 2, 4, 0]),
-    Type::Array(0),
-];
+const TYPES: [Type; 8] = [Type::Byte, Type::Real, Type::Access, Type::Record(&[0, 2, 1]), Type::Array(2), Type::Array(3), Type::Record(&[1, 7, 2, 4, 0]), Type::Array(0)];
 
 fn table() -> TypeTable {
     let mut table = TypeTable::new();
@@ -541,10 +532,7 @@ fn any_object(random: &mut Random, objects: usize, damaged: u64) -> Planned {
 fn any_plan(random: &mut Random, damaged: u64) -> Plan {
     let count = 1 + random.below(5) as usize;
     let roots = random.below(4);
-    Plan {
-        objects: (0..count).map(|_| any_object(random, count, damaged)).collect(),
-        roots: (0..roots).map(|_| any_word(random, count)).collect(),
-    }
+    Plan { objects: (0..count).map(|_| any_object(random, count, damaged)).collect(), roots: (0..roots).map(|_| any_word(random, count)).collect() }
 }
 
 // One thing is changed; where that can't be done, none.
@@ -877,7 +865,15 @@ fn refusals_come_in_their_order() {
     let mut bad_table = table();
     bad_table.types[0] = 9;
     // scratch and header of each heap, and what is told
-    let cases = [([1, 0], [0, 0], Refusal::Scratch), ([0, 1], [0, 0], Refusal::Scratch), ([1, 0], [0, 1], Refusal::Scratch), ([0, 1], [1, 0], Refusal::Scratch), ([0, 0], [1, 0], Refusal::BrokenHeap), ([0, 0], [0, 1], Refusal::BrokenHeap), ([0, 0], [0, 0], Refusal::TypeTable)];
+    let cases = [
+        ([1, 0], [0, 0], Refusal::Scratch),
+        ([0, 1], [0, 0], Refusal::Scratch),
+        ([1, 0], [0, 1], Refusal::Scratch),
+        ([0, 1], [1, 0], Refusal::Scratch),
+        ([0, 0], [1, 0], Refusal::BrokenHeap),
+        ([0, 0], [0, 1], Refusal::BrokenHeap),
+        ([0, 0], [0, 0], Refusal::TypeTable),
+    ];
     for (short, broken, why) in cases {
         for call in CALLS {
             let (a, b) = (with(short[0], broken[0]), with(short[1], broken[1]));

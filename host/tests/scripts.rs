@@ -83,9 +83,35 @@ fn the_first_refusal_ends_a_script() {
 #[test]
 fn a_bad_line_is_17() {
     let bad = [
-        "\n", "seal", "seal,0,0,", "seal,0,0,\r\n", "seal,0,0,0\n", "seal,1,0,\n", "seal,0,1,\n", "Seal,0,0,\n", " seal,0,0,\n", "seal,0,0,00\n", "recycle,0,0,1\n", "recycle,,,\n", "take,1,0\n",
-        "take,01,0,\n", "take,18446744073709551616,0,\n", "take,1,1,\n", "take,-1,0,\n", "take,,0,\n", "alloc,0,2,4\n", "alloc,0,2,4A\n", "alloc,0,2,g0\n", "alloc,0,2\n", "alloc,4294967296,2,\n",
-        "alloc,0,256,\n", "alloc,00,2,\n", "alloc,0,2,41", "free,0,0,\n", "call,number,kind,bytes\n", "\0",
+        "\n",
+        "seal",
+        "seal,0,0,",
+        "seal,0,0,\r\n",
+        "seal,0,0,0\n",
+        "seal,1,0,\n",
+        "seal,0,1,\n",
+        "Seal,0,0,\n",
+        " seal,0,0,\n",
+        "seal,0,0,00\n",
+        "recycle,0,0,1\n",
+        "recycle,,,\n",
+        "take,1,0\n",
+        "take,01,0,\n",
+        "take,18446744073709551616,0,\n",
+        "take,1,1,\n",
+        "take,-1,0,\n",
+        "take,,0,\n",
+        "alloc,0,2,4\n",
+        "alloc,0,2,4A\n",
+        "alloc,0,2,g0\n",
+        "alloc,0,2\n",
+        "alloc,4294967296,2,\n",
+        "alloc,0,256,\n",
+        "alloc,00,2,\n",
+        "alloc,0,2,41",
+        "free,0,0,\n",
+        "call,number,kind,bytes\n",
+        "\0",
     ];
     for line in bad {
         let (mut heap, _) = sample(8, 64);

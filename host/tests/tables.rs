@@ -8,12 +8,8 @@ use yexwalu::{ffi, Refusal, TypeTable};
 // The sample tables by their names: those that are refused begin with their refusal's number.
 fn samples() -> Vec<(String, Vec<u8>)> {
     let folder = Path::new(env!("CARGO_MANIFEST_DIR")).join("../docs/samples");
-    let mut all: Vec<(String, Vec<u8>)> = fs::read_dir(folder)
-        .unwrap()
-        .map(|f| f.unwrap().path())
-        .filter(|p| p.extension().is_some_and(|e| e == "table"))
-        .map(|p| (p.file_name().unwrap().to_str().unwrap().to_string(), fs::read(p).unwrap()))
-        .collect();
+    let mut all: Vec<(String, Vec<u8>)> =
+        fs::read_dir(folder).unwrap().map(|f| f.unwrap().path()).filter(|p| p.extension().is_some_and(|e| e == "table")).map(|p| (p.file_name().unwrap().to_str().unwrap().to_string(), fs::read(p).unwrap())).collect();
     all.sort();
     all
 }
@@ -35,29 +31,29 @@ struct Lent {
 }
 
 fn lent(types: usize, fields: usize, consts: usize, bytes: usize, names: usize) -> Lent {
-    Lent {
-        types: vec![0xa5; types],
-        fields: vec![0xa5; fields],
-        consts: vec![0xa5; consts],
-        bytes: vec![0xa5; bytes],
-        names: vec![0xa5; names],
-        words: vec![0xa5; 28672],
-        halves: vec![0xa5; 32768],
-    }
+    Lent { types: vec![0xa5; types], fields: vec![0xa5; fields], consts: vec![0xa5; consts], bytes: vec![0xa5; bytes], names: vec![0xa5; names], words: vec![0xa5; 28672], halves: vec![0xa5; 32768] }
 }
 
 fn read(l: &mut Lent, text: &[u8]) -> ffi::TableRead {
     // SAFETY: each pointer leads to as many elements as the length after it says, and what the call writes is lent once.
     unsafe {
         ffi::yexwalu_read_table(
-            l.types.as_mut_ptr(), l.types.len(),
-            l.fields.as_mut_ptr(), l.fields.len(),
-            l.consts.as_mut_ptr(), l.consts.len(),
-            l.bytes.as_mut_ptr(), l.bytes.len(),
-            l.names.as_mut_ptr(), l.names.len(),
-            text.as_ptr(), text.len(),
-            l.words.as_mut_ptr(), l.words.len(),
-            l.halves.as_mut_ptr(), l.halves.len(),
+            l.types.as_mut_ptr(),
+            l.types.len(),
+            l.fields.as_mut_ptr(),
+            l.fields.len(),
+            l.consts.as_mut_ptr(),
+            l.consts.len(),
+            l.bytes.as_mut_ptr(),
+            l.bytes.len(),
+            l.names.as_mut_ptr(),
+            l.names.len(),
+            text.as_ptr(),
+            text.len(),
+            l.words.as_mut_ptr(),
+            l.words.len(),
+            l.halves.as_mut_ptr(),
+            l.halves.len(),
         )
     }
 }

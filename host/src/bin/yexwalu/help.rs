@@ -1,11 +1,14 @@
 //! What `--help` prints: of all commands in short, and of one by itself.
 
+/// The commands.
+pub const COMMANDS: [&str; 6] = ["check", "show", "same", "length", "convert", "shelf"];
+
 /// Of all commands.
 pub const ALL: &str = "\
 Questions about pages: the heaps of saved VHDL runs as text.
 
     yexwalu check FILE..                    is each file a page of a heap, and of which form?
-    yexwalu show FILE                       what a page holds: its objects, the handles in them and where they lead
+    yexwalu show FILE                       what a page holds: its objects, and where their handles lead
     yexwalu same FILE FILE                  do two pages hold the same model? And which comes first?
     yexwalu length FILE                     how many bytes the page of its heap has, written today
     yexwalu convert --data|--planes FILE    that page, with objects as they are or in byte planes
@@ -52,6 +55,8 @@ and the handles in it, and where each of them leads.
                      object of a type is said by the table: without it such an object is shown by its
                      bytes alone. Handles in objects of kind Handles are found without it
     --dot            a graph of the objects for Graphviz
+
+Exit status: 0 shown; 1 the page or the table is refused (`yexwalu check --help`); 2 one can't be read.
 ";
 
 const SAME: &str = "\
@@ -77,6 +82,8 @@ an object that is gone too, goes with the same number that leads nowhere. Refuse
 
     13 untraceable        an object that a root leads to can't be traced: it is of a type, and no
                           --types was given, or the table is that of another run
+
+Exit status: 0 same; 1 different, or refused; 2 bad usage, or a file that can't be read.
 ";
 
 const LENGTH: &str = "\
@@ -86,6 +93,8 @@ How many bytes the page of a file's heap has when it is written today (`yexwalu 
 
     --data      with objects as they are, which is meant where neither is given
     --planes    with objects in byte planes
+
+Exit status: 0 told; 1 the page is refused (`yexwalu check --help`); 2 it can't be read.
 ";
 
 const CONVERT: &str = "\
@@ -98,6 +107,8 @@ A page of any form, written in the form of today, with writes64 and retired. The
     -o NEW      into a file that is not there yet: one that is there stays as it is (status 2). What
                 can't be written whole is taken away again
     -o -        to standard output, as without -o; a file of that name is -o ./-
+
+Exit status: 0 written; 1 the page is refused (`yexwalu check --help`); 2 a file can't be read or written.
 ";
 
 const SHELF: &str = "\

@@ -51,6 +51,16 @@ fn too_long() -> io::Error {
     io::Error::other("longer than 4 GB, as no page is")
 }
 
+// Reads on; 0 at the end. Room is made first, so that too little memory is an error like another; at the end some bytes more are looked for.
+fn read_on(from: impl Read, bytes: &mut Vec<u8>) -> io::Result<usize> {
+    bytes.try_reserve(PIECE as usize + 64)?;
+    let n = from.take(PIECE).read_to_end(bytes)?;
+    if bytes.len() as u64 > LONGEST {
+        return Err(too_long());
+    }
+    Ok(n)
+}
+
 impl Text {
     /// All of a file, or of standard input.
     pub fn read(name: &OsStr) -> io::Result<Text> {
@@ -60,7 +70,7 @@ impl Text {
         let file = File::open(name)?;
         let about = file.metadata()?;
         // a pipe has no size
-        let size = about.is_file().then(|| about.len());
+        let size = about.is_file().then_some(about.len());
         if size > Some(LONGEST) {
             return Err(too_long());
         }
@@ -71,9 +81,8 @@ impl Text {
         let of = size.map(|s| format!(" of {}", s >> 20)).unwrap_or_default();
         let mut bytes = Vec::new();
         let done = loop {
-            match from.by_ref().take(PIECE).read_to_end(&mut bytes) {
+            match read_on(from.by_ref(), &mut bytes) {
                 Ok(0) => break Ok(()),
-                Ok(_) if bytes.len() as u64 > LONGEST => break Err(too_long()),
                 Ok(_) if bytes.len() >= LARGE => tell(&format!("{name}: {}{of} MB read", bytes.len() >> 20)),
                 Ok(_) => {}
                 Err(why) => break Err(why),

@@ -78,6 +78,17 @@ fn found(text: &[u8], at: usize) -> &'static str {
     }
 }
 
+// The same of a file that is no type table.
+fn found_in_table(text: &[u8]) -> &'static str {
+    if text.starts_with(b"tag,") {
+        return ": it begins as a page does";
+    }
+    if text.windows(2).any(|pair| pair == b"\r\n") {
+        return ": lines end as on Windows in it, in bytes 13 and 10, not in 10 alone";
+    }
+    ""
+}
+
 fn verdict(name: &OsStr, text: &Text, answer: Result<Form, Refusal>) -> String {
     let name = input::shown(name);
     match answer {
@@ -159,7 +170,7 @@ fn types_of(name: Option<&OsStr>) -> Result<Types, u8> {
         USAGE
     })?;
     Types::read(text.bytes()).map_err(|why| {
-        say(format!("{}: no type table to go by", refusal(why)));
+        say(format!("{}: no type table to go by{}", refusal(why), found_in_table(text.bytes())));
         NO
     })
 }
@@ -207,7 +218,7 @@ fn side_of(name: &OsStr, given: Option<&[Handle]>, option: &str) -> Result<same:
     match same::roots(&heap, given) {
         Ok(Some(roots)) => Ok((heap, roots)),
         Ok(None) => {
-            say!("yexwalu: {}: nothing is sealed in it, so its roots are to be given: {option} H,H..\nyexwalu --help says more.", input::shown(name));
+            say!("yexwalu: {}: nothing is sealed in it, so its roots are to be given: {option} H,H..\n{}", input::shown(name), more("same"));
             Err(USAGE)
         }
         Err(why) => {
@@ -238,8 +249,13 @@ fn same(names: [&OsStr; 2], roots: &[Option<Vec<Handle>>; 2], table: Option<&OsS
     }
 }
 
-fn usage(why: &str) -> io::Result<u8> {
-    say!("yexwalu: {why}\nyexwalu --help says more.");
+// Where more is said: of a command, or of all where there is none of this name.
+fn more(command: &str) -> String {
+    format!("yexwalu {command}{}--help says more.", if command.is_empty() { "" } else { " " })
+}
+
+fn usage(command: &str, why: &str) -> io::Result<u8> {
+    say!("yexwalu: {why}\n{}", more(if help::COMMANDS.contains(&command) { command } else { "" }));
     Ok(USAGE)
 }
 
@@ -289,7 +305,7 @@ impl<'a> Options<'a> {
 
 fn command(words: &[OsString], out: &mut Out) -> io::Result<u8> {
     let Some((name, rest)) = words.split_first() else {
-        return usage("no command");
+        return usage("", &format!("a command is missing: {}", help::COMMANDS.join(", ")));
     };
     let asked = words.iter().take_while(|w| *w != "--").any(|w| w == "--help" || w == "-h");
     if asked || name == "help" {
@@ -299,25 +315,29 @@ fn command(words: &[OsString], out: &mut Out) -> io::Result<u8> {
         return Ok(0);
     }
     let name = name.to_string_lossy();
+    if name == "--version" || name == "-V" {
+        return heard(writeln!(out, "yexwalu {}", env!("CARGO_PKG_VERSION"))).map(|()| 0);
+    }
+    if !help::COMMANDS.contains(&name.as_ref()) {
+        return usage("", &format!("no command {}; there are {}", input::plain(&name), help::COMMANDS.join(", ")));
+    }
     let options = match Options::read(&name, rest) {
         Ok(options) => options,
-        Err(why) => return usage(&why),
+        Err(why) => return usage(&name, &why),
     };
     let files = &options.files;
     match (name.as_ref(), options.column) {
-        ("--version" | "-V", _) => heard(writeln!(out, "yexwalu {}", env!("CARGO_PKG_VERSION"))).map(|()| 0),
-        ("check" | "shelf", _) if files.is_empty() => usage(&format!("{name} takes files")),
-        ("show" | "length" | "convert", _) if files.len() != 1 => usage(&format!("{name} takes one file")),
-        ("same", _) if files.len() != 2 => usage("same takes two files"),
-        _ if files.iter().copied().chain(options.table).filter(|name| *name == "-").count() > 1 => usage("standard input can be one of the files, not several"),
-        ("convert", None) => usage("convert takes --data or --planes"),
+        ("check" | "shelf", _) if files.is_empty() => usage(&name, &format!("{name} takes files")),
+        ("show" | "length" | "convert", _) if files.len() != 1 => usage(&name, &format!("{name} takes one file")),
+        ("same", _) if files.len() != 2 => usage(&name, "same takes two files"),
+        _ if files.iter().copied().chain(options.table).filter(|name| *name == "-").count() > 1 => usage(&name, "standard input can be one of the files, not several"),
+        ("convert", None) => usage(&name, "convert takes --data or --planes"),
         ("check", _) => check(files, out),
         ("shelf", _) => shelf(files, out),
         ("length", column) => length(files[0], column.unwrap_or(Column::Data), out),
         ("convert", Some(column)) => convert(files[0], column, options.to, out),
         ("show", _) => show(files[0], options.dot, options.table, out),
-        ("same", _) => same([files[0], files[1]], &options.roots, options.table, out),
-        _ => usage(&format!("no command {name}")),
+        _ => same([files[0], files[1]], &options.roots, options.table, out),
     }
 }
 

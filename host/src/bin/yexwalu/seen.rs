@@ -33,15 +33,7 @@ impl<'a> Seen<'a> {
     /// The objects, by slot. A dead slot has none: what it is asked is refused (9).
     pub fn objects(&self) -> impl Iterator<Item = Object<'a>> + '_ {
         let slots = self.heap.slots().map_or(0, |n| n as u32);
-        (0..slots).map(Slot).filter_map(|slot| {
-            Some(Object {
-                slot,
-                kind: self.heap.kind(slot).ok()?,
-                stamp: self.heap.stamp(slot).ok()?,
-                data: self.heap.data(slot).ok(),
-                whole: self.view.object(slot)?,
-            })
-        })
+        (0..slots).map(Slot).filter_map(|slot| Some(Object { slot, kind: self.heap.kind(slot).ok()?, stamp: self.heap.stamp(slot).ok()?, data: self.heap.data(slot).ok(), whole: self.view.object(slot)? }))
     }
 
     /// The handles that an object shows.

@@ -16,10 +16,7 @@ impl Types {
     pub fn read(text: &[u8]) -> Result<Types, Refusal> {
         let (table, names) = TypeTable::read_text(text)?;
         let types = names.split(|b| *b == b'\n').take(table.types.len() / 4);
-        Ok(Types {
-            names: types.map(|name| plain(&String::from_utf8_lossy(name))).collect(),
-            table: Some(table.checked()?),
-        })
+        Ok(Types { names: types.map(|name| plain(&String::from_utf8_lossy(name))).collect(), table: Some(table.checked()?) })
     }
 
     /// The table, where one was given.
