@@ -1,4 +1,4 @@
--- What a collection answers and leaves (01, "Heap", `collect`). What is refused before it looks at the objects (18, 1, 10, 14) belongs to the front door.
+-- What a collection looks at in a heap, and where its chains start (01, "Heap", `collect`, and "Frame map and joined collection").
 use Rattle.std.specs.Prelude.{List, ◌++◌, ℕ}
 use Rattle.std.proofs.Math.Option.{Option, none, some}
 use Rattle.word.specs.Result.{Result, ok, refused}

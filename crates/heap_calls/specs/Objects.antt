@@ -1,4 +1,4 @@
--- What the calls that place and remove objects answer and leave in lent memory.
+-- What `take` hands out: an object's bytes, its length and its start (01, "Heap").
 use Rattle.std.specs.Prelude.{List, ℕ, length}
 use Rattle.word.specs.Put.{put}
 use Rattle.word.specs.Result.{Result, ok, refused}

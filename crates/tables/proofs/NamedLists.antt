@@ -43,13 +43,13 @@ pub named-exactly : (w f c b names : List ℕ) (d : Named) → (named_in w f c b
 unfolding named_in
 named-exactly w f c b names d = (
   λ e.
-  let p : (r : Names × List ℕ) × ((names_format (length w / 4) (length f / 2) (length c / 3)).read names ≡ some r) × ((whole r >>= λ n. some (with_names w f c b n)) ≡ some d) =
-  bind-some ((names_format (length w / 4) (length f / 2) (length c / 3)).read names) (λ r. whole r >>= λ n. some (with_names w f c b n)) d e in
-  let q : (n : Names) × (whole p.0 ≡ some n) × (some (with_names w f c b n) ≡ some d) = bind-some (whole p.0) (λ n. some (with_names w f c b n)) d p.2 in
-  let r = names-back (length w / 4) (length f / 2) (length c / 3) q.0 names (p.1 ∙ ap some (whole-some p.0 q.0 q.1)) in
-  (q.0, r.0, r.1, some_inj q.2),
+      let p : (r : Names × List ℕ) × ((names_format (length w / 4) (length f / 2) (length c / 3)).read names ≡ some r) × ((whole r >>= λ n. some (with_names w f c b n)) ≡ some d) =
+      bind-some ((names_format (length w / 4) (length f / 2) (length c / 3)).read names) (λ r. whole r >>= λ n. some (with_names w f c b n)) d e in
+      let q : (n : Names) × (whole p.0 ≡ some n) × (some (with_names w f c b n) ≡ some d) = bind-some (whole p.0) (λ n. some (with_names w f c b n)) d p.2 in
+      let r = names-back (length w / 4) (length f / 2) (length c / 3) q.0 names (p.1 ∙ ap some (whole-some p.0 q.0 q.1)) in
+      (q.0, r.0, r.1, some_inj q.2),
   λ p.
-  let e : (names_format (length w / 4) (length f / 2) (length c / 3)).read names ≡ give p.0 [] =
-  ap (names_format (length w / 4) (length f / 2) (length c / 3)).read (sym p.2) ∙ names-read (length w / 4) (length f / 2) (length c / 3) p.0 p.1 in
-  ap (λ (o : Option (Names × List ℕ)). o >>= λ r. whole r >>= λ n. some (with_names w f c b n)) e ∙ ap some p.3,
+      let e : (names_format (length w / 4) (length f / 2) (length c / 3)).read names ≡ give p.0 [] =
+      ap (names_format (length w / 4) (length f / 2) (length c / 3)).read (sym p.2) ∙ names-read (length w / 4) (length f / 2) (length c / 3) p.0 p.1 in
+      ap (λ (o : Option (Names × List ℕ)). o >>= λ r. whole r >>= λ n. some (with_names w f c b n)) e ∙ ap some p.3,
 )

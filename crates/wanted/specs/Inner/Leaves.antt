@@ -1,4 +1,4 @@
--- The answer of `roots_for` by what is reached.
+-- The answer of `roots_for` by what is reached (crate `reach`), with no word of marks. W are the wanted slots.
 use Rattle.std.specs.Prelude.{◌≡◌, true, List, ◌++◌, map, ◌↔◌, ℕ, ◌≤◌, length}
 use Rattle.reach.specs.Reach.{Graph, Starts, ◌∈◌, Reached, UntraceableFrom}
 use Rattle.wanted.specs.Wanted.{Rising, NotAfter}
