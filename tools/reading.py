@@ -200,7 +200,7 @@ def main():
     wrong, out, listed, here, total, crates, stated = [], [], set(), set(), 0, [], set()
     needed = book.rests(book.contracts())
     for row in rows:
-        cells = [c.strip() for c in row.strip().strip("|").split("|")]
+        cells = [c.strip() for c in re.split(r"(?<!\\)\|", row.strip().strip("|"))]
         if row.startswith("| ") and len(cells) == 5 and cells[3].endswith(".antt"):
             n = row_of_files(book, cells, wrong)
             total += n
