@@ -145,6 +145,7 @@ module _ {t : ℕ → Bool} {refs : List ℕ} {to : ℕ} {row₀ row : List ℕ}
   clears-end inv h q = sym (ap (λ (y : Bool). not y && bit_in 64 row q) (done t refs to i h inv.high q)) ∙ inv.bits q
 
 pub start-pred : (ends : List ℕ) (k : ℕ) → (k ≡ 0 → ⊥) → start_of ends k ≡ get_or ends (k - 1) 0
+unfolding start_of
 start-pred ends zero h = absurd (h refl)
 start-pred ends (suc k) h = let e : k ≡ suc k - 1 = omega arith in ap (λ (x : ℕ). get_or ends x 0) e
 
