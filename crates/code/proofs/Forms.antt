@@ -48,7 +48,7 @@ at-ranged (e ∷ es) from n h =
     step (suc k) l = h (suc (suc k)) (omega arith)
 
 start-from : (ends : List ℕ) (k : ℕ) → from_of 0 ends k ≡ start_of ends k
-unfolding from_of
+unfolding from_of start_of
 start-from ends zero = refl
 start-from ends (suc k) = refl
 

@@ -16,6 +16,7 @@ use Rattle.code.specs.View.{start_of, list_at, inst_at, block_at, view}
 use Rattle.code.specs.Inner.Columns.{seen, Lists, Columns}
 
 pub start-pred : (ends : List ℕ) (k : ℕ) → (k ≡ 0 → ⊥) → start_of ends k ≡ get_or ends (k - 1) 0
+unfolding start_of
 start-pred ends zero h = absurd (h refl)
 start-pred ends (suc k) h = let e : k ≡ suc k - 1 = omega arith in ap (λ (x : ℕ). get_or ends x 0) e
 

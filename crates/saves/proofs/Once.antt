@@ -27,7 +27,7 @@ traced-numbered (some m) (some n) o e = let z : ◌≡◌ {A = ℕ} 0 1 = cc in 
 
 either-numbered : (e : Entry) (r : Result Ordering) → r ≢ refused 0 → whether e (λ why. refused (number_of why)) r ≢ refused 0
 either-numbered (Ok _) r n = n
-either-numbered (Err why) r n e = never-0 why (let z : number_of why ≡ 0 = cc in z)
+either-numbered (Err why) r n = λ e. never-0 why (let z : number_of why ≡ 0 = cc in z)
 
 either-told : (numbered : Ordering → ℕ) (e : Entry) (r : Result Ordering) (scratch cleared : List (List ℕ))
     → (whether e (λ why. asked_of (refused_by (number_of why)) (scratch_after (Err why) scratch)) (asked_of (answered numbered nothing r) cleared)).answer

@@ -17,7 +17,7 @@ use Rattle.heap.specs.State.{State}
 use Rattle.heap.specs.Lent.{view}
 use Rattle.door.specs.HeapCalls.{admitted, Asked, asked_of}
 use Rattle.door.specs.HeapCalls.{Entry}
-use Rattle.refusal.proofs.Numbers.{never-0, number}
+use Rattle.refusal.proofs.Numbers.{never-0, number, first}
 use Rattle.door.proofs.Entering.{apart, among, asking-not, asking-ready}
 use Rattle.alike.specs.Same.{Untraceable}
 use Rattle.alike.proofs.FirstMet.{traced-or-not}

@@ -5,6 +5,7 @@ use Rattle.code.proofs.Views.{start-pred}
 use Rattle.code.proofs.list_start.Goals as goal
 
 pub returns-then-k-eq0 : goal.returns-then-k-eq0
+unfolding start_of
 returns-then-k-eq0 c = sym (ap (start_of c.args.ends.now) c.if-k-eq0.true)
 
 pub returns-else-k-eq0 : goal.returns-else-k-eq0
