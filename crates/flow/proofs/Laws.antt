@@ -11,7 +11,8 @@ use lib.Dec.{eqb}
 use borrow.Author.Tests.{eqb-true, eq-eqb, le-ltb}
 use native.Mathlib.Decide.{dec_lt}
 use Rattle.flow.specs.Function.{Function, Block, has, reads, writes, start, end, successors, Within, Leaves, Next, Walk, ReadFirst, Live}
-use Rattle.flow.specs.Dataflow.{turn, back, killed, gen, kill, any_of, out, into, Closed, Sound}
+use Rattle.flow.specs.Dataflow.{turn, back, killed, gen, kill, any_of, out, into}
+use Rattle.flow.specs.Inner.Sets.{Closed, Sound}
 use Rattle.word.proofs.Bools.{or_cases, or_left, or_right}
 
 -- ---- no instruction is in two blocks

@@ -5,7 +5,8 @@ use Rattle.word.specs.Bit.{bit}
 use Rattle.word.specs.Lists.{tabulate}
 use Rattle.rows.specs.Inner.Row.{listed}
 use Rattle.flow.specs.Function.{Function, first_at}
-use Rattle.flow.specs.Dataflow.{gen, kill, into, Sound, live_in}
+use Rattle.flow.specs.Dataflow.{gen, kill, into, live_in}
+use Rattle.flow.specs.Inner.Sets.{Sound}
 use Rattle.code.specs.View.{block_at}
 use Rattle.code.specs.Inner.Columns.{seen}
 
