@@ -1,7 +1,7 @@
 -- Tests over every index, and what they say together: the test of the lent columns. Assumes nothing.
 use mathlib.Core.Path.{◌≡◌, refl, sym, ap, ◌∙◌}
 use mathlib.Core.Logic.{◌↔◌, ⊎_elim}
-use mathlib.Core.Bool.{Bool, true, false, ◌||◌, true≢false, false≢true}
+use mathlib.Core.Bool.{Bool, true, false, ◌&&◌, ◌||◌, true≢false, false≢true}
 use mathlib.Core.List.{List, []}
 use Prim.Native.Nat.{ℕ, ◌+◌, ◌*◌, ◌/◌, ◌%◌, ◌≤◌, ◌<◌}
 use Rattle.flow.specs.Function.{Block, Instruction, apart}
@@ -9,7 +9,7 @@ use Rattle.std.specs.Bool.{nat_le}
 use Rattle.std.specs.List.{list_all}
 use Rattle.std.specs.Simd.{first_chunks}
 use Rattle.std.proofs.lemmas.Bool.Decides.{nat_tests}
-use Rattle.word.proofs.Bools.{bool-ext, or_cases, or_left, or_right}
+use Rattle.word.proofs.Bools.{bool-ext, and_both, or_cases, both-and, or_left, or_right}
 use Rattle.word.specs.Lists.{all, all_below}
 use Rattle.word.proofs.ListLaws.{all-at, at_all, get_d_tabulate, below_at, at-below}
 use Rattle.word.proofs.ChunkLaws.{every-at, pair-parts}
@@ -48,6 +48,26 @@ module _ {P : ℕ → Type 0} {n i : ℕ} (inv : Upto P n i) where
 
   pub upto-end : n ≤ i → (k : ℕ) → k < n → P k
   upto-end h k l = inv.all k (omega arith)
+
+-- the first k bytes are at most m
+abbrev pub MostBelow : List ℕ → (m k : ℕ) → Type 0
+MostBelow l m k = (i : ℕ) → i < k → get_or l i 0 ≤ m
+
+pub most-none : (l : List ℕ) (m : ℕ) → (true ≡ true) ↔ MostBelow l m 0
+most-none l m = holds (λ i h. absurd (omega arith))
+
+pub most-on : (l : List ℕ) (m k : ℕ) {b : Bool} → (b ≡ true) ↔ MostBelow l m k → ((b && nat_le (get_or l k 0) m) ≡ true) ↔ MostBelow l m (k + 1)
+most-on l m k {b} e = (
+  λ h. let w = and_both b (nat_le (get_or l k 0) m) h in let y = w.1 in below_more (λ i. get_or l i 0 ≤ m) k (e.0 w.0) (grind (arith, nat_tests)),
+  λ v. let y : get_or l k 0 ≤ m = v k (omega arith) in both-and b (nat_le (get_or l k 0) m) (e.1 (λ i h. v i (omega arith))) (grind (arith, nat_tests)),
+)
+
+pub most-end : (l : List ℕ) (m k : ℕ) {b : Bool} → (b ≡ true) ↔ MostBelow l m k → length l ≤ k → (b ≡ true) ↔ AtMost l m
+most-end l m k e h = (λ t i j. e.0 t i (omega arith), λ v. e.1 (λ i j. go i (dec_lt i (length l)) v))
+  where
+    go : (i : ℕ) → Dec (i < length l) → AtMost l m → get_or l i 0 ≤ m
+    go i (yes j) v = v i j
+    go i (no j) v = let z : ◌≡◌ {A = ℕ} (get_or l i 0) 0 = get_or-eq_default l 0 (omega arith) in omega (arith, z)
 
 abbrev pub Fine : List ℕ → List ℕ → ℕ → Type 0
 Fine ends refs k = (start_of ends k ≤ get_or ends k 0) × (get_or ends k 0 ≤ length refs)

@@ -8,10 +8,15 @@ ghost use Rattle.code.specs.Inner.Columns.{Lists, Separate, AtMost, Inside, Mark
 use crate::{Code, list_start};
 
 // Whether every byte is at most limit.
+// Kept: a loop that looks at all of them, which the compiler does many at a time; `all` stops at the first that is not, and looks at one after another.
 fn all_at_most(bytes: &[u8], limit: u8) -> bool
     ensures { (result ≡ true) ↔ AtMost bytes.now limit }
 {
-    bytes.iter().all(|byte| *byte <= limit)
+    let mut all = true;
+    for byte in bytes {
+        all &= *byte <= limit;
+    }
+    all
 }
 
 // Whether the lists lie in refs, in order.

@@ -8,7 +8,8 @@ use native.Mathlib.Decide.{ℕ_discrete}
 use lib.ListN.{length}
 use Rattle.std.specs.Prelude.{if◌then◌else◌}
 use Rattle.flow.specs.Function.{Function, start, end, Live}
-use Rattle.flow.specs.Dataflow.{into, Closed, Sound, pass_of, still, passes, live_in, live_before}
+use Rattle.flow.specs.Inner.Sets.{Closed, Sound}
+use Rattle.flow.specs.Dataflow.{into, pass_of, still, passes, live_in, live_before}
 use Rattle.word.proofs.Bools.{or_cases, or_left, or_right, and_both, either, bool-ext}
 use Rattle.flow.proofs.Laws.{Disjoint, step-sound, exact, least}
 

@@ -5,15 +5,16 @@ use mathlib.Core.Logic.{◌⊎◌, inl, inr, ⊎_elim, ◌↔◌}
 use mathlib.Core.Bool.{Bool, true, false, not, ◌&&◌, ◌||◌, false≢true}
 use mathlib.Core.List.{List, [], ◌∷◌}
 use Prim.Native.Nat.{ℕ, zero, suc, ◌+◌, ◌-◌, ◌≤◌, ◌<◌}
+use Rattle.flow.specs.Function.{Function, Block, reads, writes, start, end, successors, Within, Leaves, Next, Walk, ReadFirst, Live}
+use Rattle.word.specs.Lists.{has}
+use Rattle.flow.specs.Dataflow.{turn, back, killed, gen, kill, any_of, out, into}
+use Rattle.word.proofs.Bools.{or_cases, or_left, or_right}
+use Rattle.flow.specs.Inner.Sets.{Closed, Sound}
 use native.Mathlib.Omega.{arith}
 use lib.ListN.{length, get_or}
 use lib.Dec.{eqb}
 use borrow.Author.Tests.{eqb-true, eq-eqb, le-ltb}
 use native.Mathlib.Decide.{dec_lt}
-use Rattle.flow.specs.Function.{Function, Block, reads, writes, start, end, successors, Within, Leaves, Next, Walk, ReadFirst, Live}
-use Rattle.word.specs.Lists.{has}
-use Rattle.flow.specs.Dataflow.{turn, back, killed, gen, kill, any_of, out, into, Closed, Sound}
-use Rattle.word.proofs.Bools.{or_cases, or_left, or_right}
 
 -- ---- no instruction is in two blocks
 

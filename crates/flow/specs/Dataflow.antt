@@ -1,9 +1,9 @@
 -- The dataflow for one register r: gen and kill of a block, its live-out and live-in from a set X of blocks, and the backward walk inside it. What the
 -- code's inner functions compute, and by which the registers of a joined collection are computed. What is right is `Live` in Function.antt; that the dataflow
 -- gives exactly the live registers is proved in proofs/Fixpoint.antt.
-use Rattle.std.specs.Prelude.{Bool, true, false, not, ◌&&◌, ◌||◌, List, [], ◌∷◌, ◌≡◌, ℕ, suc, ◌-◌, ◌<◌, length, get_or, ltb, if◌then◌else◌, filter}
+use Rattle.std.specs.Prelude.{Bool, true, false, not, ◌&&◌, ◌||◌, List, [], ◌∷◌, ℕ, suc, ◌-◌, length, get_or, ltb, if◌then◌else◌, filter}
 use Rattle.word.specs.Ones.{passing}
-use Rattle.flow.specs.Function.{Function, Instruction, Block, reads, writes, start, end, holds, successors, Live}
+use Rattle.flow.specs.Function.{Function, Instruction, Block, reads, writes, start, end, holds, successors}
 
 -- r before an instruction that reads it (or not) and writes it (or not), from r after it
 abbrev pub turn : Bool → Bool → Bool → Bool
@@ -38,14 +38,6 @@ out f X b = any_of X (successors f b)
 -- live-in of a block by one step of the dataflow
 abbrev pub into : Function → ℕ → (ℕ → Bool) → ℕ → Bool
 into f r X b = gen f r b || (out f X b && not (kill f r b))
-
--- a set of blocks to which a step of the dataflow adds nothing
-abbrev pub Closed : Function → ℕ → (ℕ → Bool) → Type 0
-Closed f r X = (b : ℕ) → b < length f.blocks → into f r X b ≡ true → X b ≡ true
-
--- a set of blocks into each of which r is live
-abbrev pub Sound : Function → ℕ → (ℕ → Bool) → Type 0
-Sound f r X = (b : ℕ) → X b ≡ true → (start f b < end f b) × Live f (start f b) r
 
 -- ---- the dataflow as a computation
 

@@ -173,14 +173,14 @@ fn pass(s: &mut [u64], flow: &Flow, rising: bool) -> bool
     changed
 }
 
-// Passes until nothing changes. Each goes from the last block to the first, as what is live goes along the code, but every fourth the other way round: it
-// takes along branches back, from one to the next, what would take a pass for each of them.
+// Passes until nothing changes. Each goes from the last block to the first, against the code's order, as what is live does; but one of four, the third, goes
+// the other way round: it takes along branches back, from one to the next, what would take a pass for each of them.
 fn solve(s: &mut [u64], flow: &Flow)
     requires nb_value { Room flow.now s.old × Linked flow.now.blocks.bounds.now s.old flow.now.words flow.now.blocks.count }
     ensures { Solved flow.now.kinds.now flow.now.registers.ends.now flow.now.registers.refs.now flow.now.blocks.bounds.now s.old s.new flow.now.blocks.count flow.now.words }
 {
     let mut done: u8 = 0;
-    while pass(s, flow, done % 4 == 3) {
+    while pass(s, flow, done % 4 == 2) {
         done = done.wrapping_add(1);
     }
 }

@@ -5,9 +5,10 @@ use Rattle.word.specs.Inner.Bit.{bit}
 use Rattle.word.specs.Lists.{tabulate}
 use Rattle.rows.specs.Inner.Row.{listed}
 use Rattle.flow.specs.Function.{Function, first_at}
-use Rattle.flow.specs.Dataflow.{gen, kill, into, Sound, live_in}
+use Rattle.flow.specs.Dataflow.{gen, kill, into, live_in}
 use Rattle.code.specs.View.{block_at}
 use Rattle.code.specs.Inner.Columns.{seen}
+use Rattle.flow.specs.Inner.Sets.{Sound}
 
 -- only the w words from a differ
 pub record Outside (s s' : List ℕ) (a w : ℕ) : Type 0 where
