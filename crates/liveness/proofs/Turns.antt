@@ -2,11 +2,11 @@
 use mathlib.Core.Path.{◌≡◌, refl, sym, ap, ap₂, ◌∙◌, subst}
 use mathlib.Core.Bool.{Bool, true, false, not, ◌&&◌, ◌||◌, true≢false, false≢true}
 use mathlib.Core.List.{List}
-use Prim.Native.Nat.{ℕ, suc, zero, ◌+◌, ◌-◌, ◌*◌, ◌≤◌, ◌<◌, ◌/◌}
+use Prim.Native.Nat.{ℕ, suc, ◌+◌, ◌-◌, ◌*◌, ◌≤◌, ◌<◌}
 use Rattle.rows.specs.Inner.Row.{bit_in}
-use Rattle.flow.specs.Function.{Function, reads, writes, Instruction, inst}
+use Rattle.flow.specs.Function.{Function, reads, writes}
 use Rattle.word.specs.Lists.{has}
-use Rattle.flow.specs.Dataflow.{turn, back, killed, asked, only}
+use Rattle.flow.specs.Dataflow.{turn, back, killed, asked}
 use Rattle.word.proofs.Bools.{and_both, bool-ext, and-false}
 use Rattle.flow.proofs.Laws.{back-open, back_none}
 use Rattle.word.specs.Run.{start_of}
@@ -14,9 +14,6 @@ use Rattle.code.specs.Inner.Columns.{wanted, seen}
 use Rattle.code.specs.declared.Tracked.{Tracked}
 use Rattle.code.specs.declared.Tracked.TheVariants.{References}
 use Rattle.code.proofs.Views.{list-next, reads-seen, writes-seen}
-use Rattle.word.proofs.ListLaws.{get_d_tabulate}
-use Rattle.flow.proofs.Tracking.{inst-track, reads-track, writes-track}
-use Rattle.roots.specs.View.{list_at, inst_at, view}
 use native.Mathlib.Omega.{arith}
 use native.Mathlib.Numerals.{add-one}
 use lib.ListN.{length, get_or}
