@@ -7,12 +7,13 @@ use native.Mathlib.Omega.{arith}
 use lib.Dec.{ltb}
 use lib.ListN.{length, get_or}
 use lib.Seq.{slice}
-use Rattle.word.specs.Lists.{tabulate}
+use Rattle.word.specs.Lists.{tabulate, has}
 use Rattle.word.proofs.ListLaws.{get_d_tabulate}
-use Rattle.flow.specs.Function.{Instruction, Block, has, inst, reads, writes, block, start, end}
+use Rattle.flow.specs.Function.{Instruction, Block, inst, reads, writes, block, start, end}
 use Rattle.flow.specs.Dataflow.{asked, only, track}
 use Rattle.flow.proofs.Tracking.{inst-track, reads-track, writes-track}
-use Rattle.code.specs.View.{start_of, list_at, inst_at, block_at, view}
+use Rattle.code.specs.View.{list_at, inst_at, block_at, view}
+use Rattle.word.specs.Run.{start_of}
 use Rattle.code.specs.Inner.Columns.{seen, Lists, Columns}
 
 pub start-pred : (ends : List ℕ) (k : ℕ) → (k ≡ 0 → ⊥) → start_of ends k ≡ get_or ends (k - 1) 0

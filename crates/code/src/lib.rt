@@ -2,7 +2,8 @@
 #![tactic(auto)]
 
 ghost use Rattle.std.specs.Prelude.{◌≡◌, true, ◌+◌, ◌*◌, ◌/◌, ◌≤◌, ◌<◌, length};
-ghost use Rattle.code.specs.View.{formed, start_of};
+ghost use Rattle.code.specs.View.{formed};
+ghost use Rattle.word.specs.Run.{start_of};
 ghost use Rattle.code.specs.Inner.Columns.{Lists, Columns};
 
 pub mod check;

@@ -9,7 +9,6 @@ use Rattle.addresses.specs.Listed.{Listed}
 use Rattle.reach.specs.Reach.{Starts, UntraceableFrom, ◌∈◌}
 use Rattle.collection.specs.Collected.{graph}
 use Rattle.collection.specs.Shown.{shown}
-use Rattle.collection.specs.Joined.{Pinning}
 
 -- What pins (request [4]): the pins that are given, the list of addresses with their slots, and the addresses of the frame.
 pub record Pinning : Type 0 where

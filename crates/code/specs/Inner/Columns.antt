@@ -3,7 +3,8 @@ use Rattle.std.specs.Prelude.{◌≡◌, ◌⊎◌, Bool, true, false, ◌||◌,
 use Rattle.rows.specs.Inner.Row.{bit_in}
 use Rattle.flow.specs.Function.{Function}
 use Rattle.flow.specs.Dataflow.{track}
-use Rattle.code.specs.View.{start_of, view}
+use Rattle.code.specs.View.{view}
+use Rattle.word.specs.Run.{start_of}
 use Rattle.code.specs.declared.Tracked.{Tracked}
 use Rattle.code.specs.declared.Tracked.TheVariants.{References, Handles, All}
 
