@@ -4,6 +4,4 @@ pub mod DescLaws
 pub mod Walks
 pub mod TraceLaws
 pub mod Vacant
-pub mod Levels
 pub mod Objects
-pub mod Cases

@@ -76,7 +76,7 @@ unfoldable pub places_at : Table → ℕ → ℕ → ℕ → List ℕ → ℕ �
 places_at T end zero t d at = none
 places_at T end (suc n) t d at = if has_handles T.types t then places_by T (places_at T end n) end t d at (type_at T.types t) else some []
 
--- a value under a descriptor, at depths 0 to 64: with more levels the answer is the same (proofs/Levels)
+-- a value under a descriptor, at depths 0 to 64: with more levels the answer is the same (crates/places/proofs/Levels.antt)
 abbrev pub places_of : Table → ℕ → ℕ → List ℕ → ℕ → Places
 places_of T end t d at = places_at T end 65 t d at
 
