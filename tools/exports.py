@@ -36,6 +36,9 @@ FILES = [
     ("held_collections_joined", "held_collect/src/joined.rt"),
     ("held_readings", "held_reads/src/lib.rt"),
     ("held_countings", "held_figures/src/lib.rt"),
+    ("held_scripts", "held_run/src/lib.rt"),
+    ("held_roots_wanted", "held_wanted/src/lib.rt"),
+    ("held_two_saves", "held_saves/src/lib.rt"),
 ]
 WORDS = "requires ensures result record old new now entry exit λ if then else true false u8 u32 u64 usize bool mut".split()
 

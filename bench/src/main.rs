@@ -188,6 +188,19 @@ fn churn(table: &mut Table, slots: usize, how: &str) {
     table.row("alloc, take, recycle in a script (ns a turn), by slots", slots, NONE, (a - copy) / 1000.0, b);
 }
 
+// A script of one line, on a heap that is known to be one, half of the slots holding 32 bytes; beside it the Rust's call.
+fn script_line(table: &mut Table, slots: usize) {
+    let bytes = [7u8; 32];
+    let mut port = heap_with(slots, slots / 2, &bytes);
+    let mut rust = heap::Heap::new(1);
+    for _ in 0..slots / 2 {
+        rust.alloc(heap::Obj::Bytes, bytes.to_vec()).unwrap();
+    }
+    let a = time(|| port.run(black_box(b"recycle,0,0,\n")).unwrap());
+    let b = time(|| rust.recycle(black_box(&[])));
+    table.row("a script of one line (ns), by slots", slots, NONE, a, b);
+}
+
 // The kind and the data of every object, half of the slots holding 32 bytes: one check and one pass.
 fn reading(table: &mut Table, slots: usize) {
     let bytes = [7u8; 32];
@@ -396,7 +409,7 @@ fn rehearsals(table: &mut Table, lines: usize) {
     table.row("rehearse, four thresholds (ns a line), by lines", lines, NONE, time(|| drop(black_box(here()))) / turns, time(|| drop(black_box(there()))) / turns);
 }
 
-const ROWS: [&str; 26] = ["churn", "checked_churn", "script", "view", "view_handles", "layout", "checked_layout", "many_types", "nested", "object_handles", "checked_handles", "typed_handles", "empty_parts", "live_refs", "sparse_rows", "collect", "joined", "roots_for", "same", "rehearse", "write_page", "read_page", "read_page_short", "write_planes", "read_planes", "memcpy"];
+const ROWS: [&str; 28] = ["churn", "checked_churn", "script", "script_line", "view", "view_handles", "layout", "checked_layout", "many_types", "nested", "object_handles", "checked_handles", "typed_handles", "empty_parts", "live_refs", "sparse_rows", "collect", "typed_collect", "joined", "roots_for", "same", "rehearse", "write_page", "read_page", "read_page_short", "write_planes", "read_planes", "memcpy"];
 
 fn main() {
     let words: Vec<String> = std::env::args().skip(1).collect();
@@ -410,6 +423,7 @@ fn main() {
     for row in ROWS.into_iter().filter(|r| picked(r)) {
         match row {
             "churn" | "checked_churn" | "script" => [16, 256, 4096, 65536].iter().for_each(|n| churn(&mut table, *n, row)),
+            "script_line" => [16, 256, 4096, 65536].iter().for_each(|n| script_line(&mut table, *n)),
             "view" => [256, 4096, 65536].iter().for_each(|n| reading(&mut table, *n)),
             "view_handles" => [256, 4096, 65536].iter().for_each(|n| typed::viewed(&mut table, *n, 4003)),
             "layout" => [3, 30, 300].iter().for_each(|n| typed::layouts(&mut table, "layout of a record, table checked once (ns), by fields", *n, *n, 0, true)),
@@ -434,6 +448,10 @@ fn main() {
                 SIZES.iter().for_each(|n| collections(&mut table, "wide", *n, |i| if i == 0 { 1..*n } else { 0..0 }));
                 SIZES.iter().for_each(|n| dropping(&mut table, *n));
                 SIZES.iter().for_each(|n| collections(&mut table, "tree", *n, |i| (2 * i + 1).min(*n)..(2 * i + 3).min(*n)));
+            }
+            "typed_collect" => {
+                TYPES.iter().for_each(|n| typed::collected(&mut table, *n, true));
+                TYPES.iter().for_each(|n| typed::collected(&mut table, *n, false));
             }
             "joined" => SIZES.iter().for_each(|n| joined(&mut table, *n)),
             "roots_for" => {

@@ -212,6 +212,32 @@ pub fn empty_parts(rows: &mut Table) {
     }
 }
 
+/// A collection of a ring of 16 records of two handles and a real, in a table of so many types: nothing goes.
+pub fn collected(rows: &mut Table, count: usize, once: bool) {
+    const OBJECTS: u32 = 16;
+    let mut types = Types::default();
+    let (access, real) = (types.access(), types.real());
+    let record = types.record(&[access, access, real], None);
+    types.others(count - 3);
+    let Types { table, prog } = types;
+    let (mut port, mut rust) = (Heap::new(1, OBJECTS as usize, 24 * OBJECTS as usize).unwrap(), heap::Heap::new(1));
+    for i in 0..OBJECTS {
+        let data = [heap::pack(1, (i + 1) % OBJECTS, 1), 0, 0].map(u64::to_le_bytes).concat();
+        port.alloc(Kind::Typed(record), &data).unwrap();
+        rust.alloc(heap::Obj::Typed(TyId(record)), data).unwrap();
+    }
+    let first = heap::pack(1, 0, 1);
+    let a = if once {
+        let table = table.checked().unwrap();
+        time(|| port.collect(&table, &[Handle(first)], &[]).unwrap())
+    } else {
+        time(|| port.collect(&table, &[Handle(first)], &[]).unwrap())
+    };
+    let b = time(|| assert!(rust.collect(&prog, &[first], &[])));
+    assert!(port.live().unwrap() == OBJECTS as usize && rust.live() == OBJECTS as usize);
+    rows.row(&format!("collect, 16 records{} (ns), by types", how(once)), count, NONE, a, b);
+}
+
 /// The handles of so many objects of a record by a view, in a table of so many types that was checked once.
 pub fn viewed(rows: &mut Table, objects: usize, count: usize) {
     let mut types = Types::default();

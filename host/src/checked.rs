@@ -1,18 +1,25 @@
 use crate::ffi::RawLayout;
 use crate::held;
-use crate::{Handle, Layout, Refusal, TypeId, TypeTable};
+use crate::{FrameSlot, Handle, Layout, Refusal, TypeId, TypeTable};
 use std::ops::Deref;
 
 mod sealed {
-    use crate::{Handle, Refusal, TypeId};
+    use crate::{Handle, Refusal, TypeId, TypeTable};
 
-    /// What is asked of a table for one object of many.
+    /// What a call on a heap asks of a table.
     pub trait Traces {
         fn trace(&self, ty: TypeId, data: &[u8]) -> Result<Vec<Handle>, Refusal>;
+
+        fn table(&self) -> &TypeTable;
+
+        /// Is the table in order? Calls without a check rest on it: it may say yes only of a table with which a checked call was answered, and that nobody can have changed since then.
+        fn good(&self) -> bool;
     }
 }
 
-/// A type table by which objects are traced one by one: a [`CheckedTable`], in the time of the object's type, or a [`TypeTable`], which is checked as a whole for each object. Both say the same. No other type has it.
+use sealed::Traces;
+
+/// A type table that calls on a heap go by: a [`CheckedTable`], or a [`TypeTable`], which is checked as a whole by each call, and so for each object where objects are traced one by one. Both say the same. No other type has it.
 ///
 /// ```
 /// use yexwalu::{AnyTable, Heap, Kind, Refusal, TypeTable};
@@ -26,26 +33,43 @@ mod sealed {
 /// assert_eq!((count(&heap, &table)?, count(&heap, &table.checked()?)?), (1, 1));
 /// # Ok::<(), Refusal>(())
 /// ```
-pub trait AnyTable: sealed::Traces {}
+pub trait AnyTable: Traces {}
 
 impl AnyTable for TypeTable {}
 
 impl AnyTable for CheckedTable {}
 
-impl sealed::Traces for TypeTable {
+impl Traces for TypeTable {
     fn trace(&self, ty: TypeId, data: &[u8]) -> Result<Vec<Handle>, Refusal> {
         self.object_handles(ty, data)
     }
-}
 
-impl sealed::Traces for CheckedTable {
-    fn trace(&self, ty: TypeId, data: &[u8]) -> Result<Vec<Handle>, Refusal> {
-        self.object_handles(ty, data)
+    fn table(&self) -> &TypeTable {
+        self
+    }
+
+    fn good(&self) -> bool {
+        // a question that is answered for every type, also a missing one, unless the table is not in order
+        self.has_handles(0).is_ok()
     }
 }
 
-/// A type table that was checked once, and that nobody can change: [`TypeTable::checked`] makes it. Its layouts and traces answer what those of the table do, in the time of the type that is asked for, where the table's
-/// own calls look at the whole table each time. It stands wherever a `&TypeTable` does. [`ObjectRef::handles`](crate::ObjectRef::handles), which is asked of many objects, goes by either ([`AnyTable`]): take this one there.
+impl Traces for CheckedTable {
+    fn trace(&self, ty: TypeId, data: &[u8]) -> Result<Vec<Handle>, Refusal> {
+        self.object_handles(ty, data)
+    }
+
+    fn table(&self) -> &TypeTable {
+        &self.0
+    }
+
+    fn good(&self) -> bool {
+        true
+    }
+}
+
+/// A type table that was checked once, and that nobody can change: [`TypeTable::checked`] makes it. Its layouts, traces and frame maps answer what those of the table do, in the time of the type that is asked for, where the table's
+/// own calls look at the whole table each time. It stands wherever a `&TypeTable` does. Calls on a heap go by either ([`AnyTable`]): with this one a collection, or the handles of an object, take no time for the table.
 ///
 /// ```
 /// use yexwalu::{Refusal, TypeTable};
@@ -74,7 +98,7 @@ pub struct CheckedTable(TypeTable);
 
 macro_rules! on_checked {
     ($table:ident, $call:ident ($($after:expr),*)) => {
-        // SAFETY: each pointer leads to as many elements as the length after it says. What the call writes, the outputs given, is borrowed mutably. Nothing is asked of the table.
+        // SAFETY: each pointer leads to as many elements as the length after it says. What the call writes, the outputs given, is borrowed mutably. The table is in order: `checked` made it.
         unsafe {
             held::$call(
                 $table.0.types.as_ptr(), $table.0.types.len(),
@@ -88,8 +112,9 @@ macro_rules! on_checked {
 impl TypeTable {
     /// The table, checked once. It is refused where it is not in order (10).
     pub fn checked(self) -> Result<CheckedTable, Refusal> {
-        // a question that is answered for every type, also a missing one, unless the table is not in order
-        self.has_handles(0)?;
+        if !self.good() {
+            return Err(Refusal::TypeTable);
+        }
         Ok(CheckedTable(self))
     }
 }
@@ -133,6 +158,14 @@ impl CheckedTable {
         Ok(layout)
     }
 
+    /// As [`TypeTable::desc_size`]: 11 is refused.
+    pub fn desc_size(&self, ty: TypeId) -> Result<u64, Refusal> {
+        let (c, b) = (&self.0.consts, &self.0.bytes);
+        let answer = on_checked!(self, yexwalu_held_desc_size(c.as_ptr(), c.len(), b.as_ptr(), b.len(), ty.into()));
+        Refusal::check(answer.number)?;
+        Ok(answer.first)
+    }
+
     /// As [`TypeTable::has_handles`].
     pub fn has_handles(&self, ty: TypeId) -> bool {
         on_checked!(self, yexwalu_held_has_handles(ty.into())).first == 1
@@ -162,5 +195,19 @@ impl CheckedTable {
         let answer = on_checked!(self, yexwalu_held_value_handles(c.as_ptr(), c.len(), b.as_ptr(), b.len(), ty.into(), data.as_ptr(), data.len(), out.as_mut_ptr().cast(), out.len()));
         Refusal::check(answer.number)?;
         Ok(answer.first as usize)
+    }
+
+    /// As [`TypeTable::slot_roots`]: 13 is refused.
+    pub fn slot_roots(&self, map: &[FrameSlot], memory: &[u8]) -> Result<(Vec<Handle>, Vec<u64>), Refusal> {
+        TypeTable::both_listed(map.len(), memory.len(), |handles, addresses| self.slot_roots_into(map, memory, handles, addresses))
+    }
+
+    /// As [`TypeTable::slot_roots_into`], which also refuses too short a list (7).
+    pub fn slot_roots_into(&self, map: &[FrameSlot], memory: &[u8], handles: &mut [Handle], addresses: &mut [u64]) -> Result<(usize, usize), Refusal> {
+        let (map, c, b) = (FrameSlot::words(map), &self.0.consts, &self.0.bytes);
+        let answer = on_checked!(self, yexwalu_held_slot_roots(c.as_ptr(), c.len(), b.as_ptr(), b.len(),
+            map.as_ptr(), map.len(), memory.as_ptr(), memory.len(), handles.as_mut_ptr().cast(), handles.len(), addresses.as_mut_ptr(), addresses.len()));
+        Refusal::check(answer.number)?;
+        Ok((answer.first as usize, answer.second as usize))
     }
 }

@@ -1,6 +1,6 @@
 use crate::ffi::{self, Done, Header};
 use crate::held::{self, Parts};
-use crate::{FrameSlot, Function, Handle, Refusal, Slot, TypeId, TypeTable};
+use crate::{AnyTable, FrameSlot, Function, Handle, Refusal, Slot, TypeId, TypeTable};
 use std::cell::{Cell, RefCell};
 use std::cmp::Ordering;
 use std::fmt;
@@ -264,8 +264,7 @@ impl Scratch {
 }
 
 /// A heap of objects, in memory of its own. Nobody else can write there, and every call is proved to leave a heap, so what `new` or `read_page` made is known to be one and is not checked again: a call takes the time of
-/// what it does. Parts that a host put together (`from_parts`) are checked by the first call on them. `run`, `roots_for`, `same`, `order` and `misfit` check the whole heap each time, in time in
-/// proportion to slots and pool.
+/// what it does. Parts that a host put together (`from_parts`) are checked by the first call on them. Calls with a type table check the table each time, but one that was checked once ([`CheckedTable`](crate::CheckedTable)).
 ///
 /// Every call can be refused because scratch is short (18) or the memory holds no heap (1); both cannot happen to a heap that was made by `new`, `read_page` or `open` and is changed by calls alone. What else
 /// refuses a call is said there. A refusal changes nothing, but for two counts (`alloc`, `write`) and what the lines of a script did before it (`run`).
@@ -330,26 +329,47 @@ macro_rules! ask {
     }};
 }
 
-// A question on two heaps, with one type table, and a root list each. A heap may stand beside itself: scratch is lent once, so there is more of it for the second time.
+// A question on two heaps, with one type table, and a root list each: without the checks where both heaps are known and the table is in order. A heap may stand beside itself: scratch is lent once, so there is more of it for the
+// second time.
 macro_rules! ask_beside {
-    ($heap:ident, $call:ident ($types:expr, $roots:expr, $other:expr, $other_roots:expr)) => {{
-        let (types, roots, other, other_roots): (&TypeTable, &[Handle], &Heap, &[Handle]) = ($types, $roots, $other, $other_roots);
-        let o = &other.memory;
+    ($heap:ident, $held:ident, $checked:ident ($types:ident, $roots:ident, $other:ident, $other_roots:ident)) => {{
+        let (types, o) = ($types.table(), &$other.memory);
         let (mut spare, mut own);
-        let t: &mut Scratch = if std::ptr::eq($heap, other) {
+        let t: &mut Scratch = if std::ptr::eq($heap, $other) {
             spare = $heap.scratch();
             &mut spare
         } else {
-            own = other.scratch.borrow_mut();
+            own = $other.scratch.borrow_mut();
             &mut own
         };
         // a handle is its number: `repr(transparent)`
-        ask!($heap, $call(
-            types.types.as_ptr(), types.types.len(), types.fields.as_ptr(), types.fields.len(),
-            types.consts.as_ptr(), types.consts.len(), types.bytes.as_ptr(), types.bytes.len())
-            (other.header, o.narrow.as_ptr(), o.narrow.len(), o.wide.as_ptr(), o.wide.len(), o.pool.as_ptr(), o.pool.len(),
-            roots.as_ptr().cast(), roots.len(), other_roots.as_ptr().cast(), other_roots.len())
-            (t.marks.as_mut_ptr(), t.marks.len(), t.work.as_mut_ptr(), t.work.len()))
+        if $heap.known.get() && $other.known.get() && $types.good() {
+            let (p, q, m) = (Parts::read(&$heap.header), Parts::read(&$other.header), &$heap.memory);
+            let mut s = $heap.scratch.borrow_mut();
+            // SAFETY: both heaps are known to be well formed, and the table is in order (`held`). Pointers lead to as many elements as said, and the call only reads what they lead to, but scratch, which is borrowed mutably.
+            unsafe {
+                held::$held(
+                    types.types.as_ptr(), types.types.len(), types.fields.as_ptr(), types.fields.len(),
+                    types.consts.as_ptr(), types.consts.len(), types.bytes.as_ptr(), types.bytes.len(),
+                    p.tag, p.numbers, p.log, p.lengths,
+                    m.narrow.as_ptr() as *mut u32, m.narrow.len(),
+                    m.wide.as_ptr() as *mut u64, m.wide.len(),
+                    m.pool.as_ptr() as *mut u8, m.pool.len(),
+                    q.tag, q.numbers, q.log, q.lengths,
+                    o.narrow.as_ptr(), o.narrow.len(), o.wide.as_ptr(), o.wide.len(), o.pool.as_ptr(), o.pool.len(),
+                    $roots.as_ptr().cast(), $roots.len(), $other_roots.as_ptr().cast(), $other_roots.len(),
+                    s.marks.as_mut_ptr(), s.marks.len(), s.work.as_mut_ptr(), s.work.len(),
+                    t.marks.as_mut_ptr(), t.marks.len(), t.work.as_mut_ptr(), t.work.len(),
+                )
+            }
+        } else {
+            ask!($heap, $checked(
+                types.types.as_ptr(), types.types.len(), types.fields.as_ptr(), types.fields.len(),
+                types.consts.as_ptr(), types.consts.len(), types.bytes.as_ptr(), types.bytes.len())
+                ($other.header, o.narrow.as_ptr(), o.narrow.len(), o.wide.as_ptr(), o.wide.len(), o.pool.as_ptr(), o.pool.len(),
+                $roots.as_ptr().cast(), $roots.len(), $other_roots.as_ptr().cast(), $other_roots.len())
+                (t.marks.as_mut_ptr(), t.marks.len(), t.work.as_mut_ptr(), t.work.len()))
+        }
     }};
 }
 
@@ -380,15 +400,11 @@ macro_rules! change {
 // A call that reads a heap: without the check where the heap is known.
 macro_rules! ask_known {
     ($heap:ident, $held:ident, $checked:ident ($($given:expr),*)) => {
-        ask_known!($heap, $held, $checked () ($($given),*))
-    };
-    ($heap:ident, $held:ident, $checked:ident ($($before:expr),*) ($($given:expr),*)) => {
         if $heap.known.get() {
             let (p, m) = (Parts::read(&$heap.header), &$heap.memory);
             // SAFETY: the heap is known to be well formed (`held`). Pointers lead to as many elements as said, and the call only reads what they lead to, but the outputs given, which are borrowed mutably.
             Heap::pair(unsafe {
                 held::$held(
-                    $($before,)*
                     p.tag, p.numbers, p.log, p.lengths,
                     m.narrow.as_ptr() as *mut u32, m.narrow.len(),
                     m.wide.as_ptr() as *mut u64, m.wide.len(),
@@ -397,20 +413,51 @@ macro_rules! ask_known {
                 )
             })
         } else {
-            $heap.told(ask!($heap, $checked ($($before),*) ($($given),*)))
+            $heap.told(ask!($heap, $checked ($($given),*)))
         }
     };
 }
 
-// A call that may change a heap: the first given is done where the heap is known, the second where it is not.
+// The same with a type table: without the checks where the heap is known and the table is in order. The call that is done without them may take scratch, under a name.
+macro_rules! ask_typed {
+    ($heap:ident, $types:ident, $held:ident ($($given:expr),*) |$s:ident| ($($scratch:expr),*), $checked:ident) => {{
+        let t = $types.table();
+        if $heap.known.get() && $types.good() {
+            let (p, m) = (Parts::read(&$heap.header), &$heap.memory);
+            #[allow(unused_mut, unused_variables)]
+            let mut $s = $heap.scratch.borrow_mut();
+            // SAFETY: the heap is known to be well formed, and the table is in order (`held`). Pointers lead to as many elements as said, and the call only reads what they lead to, but scratch and the outputs given, which are borrowed
+            // mutably.
+            unsafe {
+                held::$held(
+                    t.types.as_ptr(), t.types.len(), t.fields.as_ptr(), t.fields.len(),
+                    t.consts.as_ptr(), t.consts.len(), t.bytes.as_ptr(), t.bytes.len(),
+                    p.tag, p.numbers, p.log, p.lengths,
+                    m.narrow.as_ptr() as *mut u32, m.narrow.len(),
+                    m.wide.as_ptr() as *mut u64, m.wide.len(),
+                    m.pool.as_ptr() as *mut u8, m.pool.len(),
+                    $($given,)*
+                    $($scratch),*
+                )
+            }
+        } else {
+            ask!($heap, $checked(
+                t.types.as_ptr(), t.types.len(), t.fields.as_ptr(), t.fields.len(),
+                t.consts.as_ptr(), t.consts.len(), t.bytes.as_ptr(), t.bytes.len())
+                ($($given),*))
+        }
+    }};
+}
+
+// A call that may change a heap: the first given is done where the heap is known, the second where it is not. What else the first requires may be asked before it.
 macro_rules! change_known {
     ($heap:ident, $held:ident ($($given:expr),*), $checked:expr) => {
-        change_known!($heap, $held () ($($given),*), $checked)
+        change_known!($heap, true, $held () ($($given),*), $checked)
     };
-    ($heap:ident, $held:ident ($($before:expr),*) ($($given:expr),*), $checked:expr) => {
-        if $heap.known.get() {
+    ($heap:ident, $good:expr, $held:ident ($($before:expr),*) ($($given:expr),*), $checked:expr) => {
+        if $heap.known.get() && $good {
             let (p, m) = (Parts::of(&mut $heap.header), &mut $heap.memory);
-            // SAFETY: the heap is known to be well formed (`held`), and the call leaves it so. Pointers lead to as many elements as said, and header, memory, scratch and the outputs given are borrowed mutably, so none is lent twice.
+            // SAFETY: the heap is known to be well formed, and what else is required holds (`held`); the call leaves the heap so. Pointers lead to as many elements as said, and header, memory, scratch and the outputs given are borrowed mutably, so none is lent twice.
             Heap::pair(unsafe {
                 held::$held(
                     $($before,)*
@@ -585,6 +632,13 @@ impl Heap {
     fn told(&self, answer: ffi::Answer) -> Result<(u64, u64), Refusal> {
         let told = Heap::pair(answer)?;
         self.known.set(true);
+        Ok(told)
+    }
+
+    // The same of a call on two heaps.
+    fn told_beside(&self, other: &Heap, answer: ffi::Answer) -> Result<(u64, u64), Refusal> {
+        let told = self.told(answer)?;
+        other.known.set(true);
         Ok(told)
     }
 
@@ -825,11 +879,11 @@ impl Heap {
     /// assert_eq!(heap.resolve(lost), Err(Refusal::Stale));
     /// # Ok::<(), Refusal>(())
     /// ```
-    pub fn collect(&mut self, types: &TypeTable, roots: &[Handle], pins: &[Slot]) -> Result<(), Refusal> {
+    pub fn collect(&mut self, types: &(impl AnyTable + ?Sized), roots: &[Handle], pins: &[Slot]) -> Result<(), Refusal> {
         // a handle is its number: `repr(transparent)`
         let numbers: *const u64 = roots.as_ptr().cast();
-        let s = self.scratch.get_mut();
-        let told = change_known!(self, yexwalu_held_collect(
+        let (s, good, types) = (self.scratch.get_mut(), types.good(), types.table());
+        let told = change_known!(self, good, yexwalu_held_collect(
             types.types.as_ptr(), types.types.len(), types.fields.as_ptr(), types.fields.len(),
             types.consts.as_ptr(), types.consts.len(), types.bytes.as_ptr(), types.bytes.len())
             (numbers, roots.len(), pins.as_ptr().cast(), pins.len(), s.marks.as_mut_ptr(), s.marks.len(), s.work.as_mut_ptr(), s.work.len()),
@@ -856,7 +910,7 @@ impl Heap {
     /// assert_eq!(heap.roots_for(&table, &[], &[root_slot]), Err(Refusal::NoRoots));
     /// # Ok::<(), Refusal>(())
     /// ```
-    pub fn roots_for(&self, types: &TypeTable, pins: &[Slot], wanted: &[Slot]) -> Result<Vec<Handle>, Refusal> {
+    pub fn roots_for(&self, types: &(impl AnyTable + ?Sized), pins: &[Slot], wanted: &[Slot]) -> Result<Vec<Handle>, Refusal> {
         let mut out = vec![0; wanted.len()];
         let n = self.roots_for_into(types, pins, wanted, Handle::list_mut(&mut out))?;
         out.truncate(n);
@@ -864,12 +918,10 @@ impl Heap {
     }
 
     /// As `roots_for`, with the handles written to the front of a lent list (7). The answer is how many.
-    pub fn roots_for_into(&self, types: &TypeTable, pins: &[Slot], wanted: &[Slot], out: &mut [Handle]) -> Result<usize, Refusal> {
-        let answer = ask!(self, yexwalu_roots_for(
-            types.types.as_ptr(), types.types.len(), types.fields.as_ptr(), types.fields.len(),
-            types.consts.as_ptr(), types.consts.len(), types.bytes.as_ptr(), types.bytes.len())
-            (pins.as_ptr().cast(), pins.len(), wanted.as_ptr().cast(), wanted.len(), out.as_mut_ptr().cast(), out.len()));
-        Ok(Heap::pair(answer)?.0 as usize)
+    pub fn roots_for_into(&self, types: &(impl AnyTable + ?Sized), pins: &[Slot], wanted: &[Slot], out: &mut [Handle]) -> Result<usize, Refusal> {
+        let answer = ask_typed!(self, types, yexwalu_held_roots_for(pins.as_ptr().cast(), pins.len(), wanted.as_ptr().cast(), wanted.len(), out.as_mut_ptr().cast(), out.len())
+            |s| (s.marks.as_mut_ptr(), s.marks.len(), s.work.as_mut_ptr(), s.work.len()), yexwalu_roots_for);
+        Ok(self.told(answer)?.0 as usize)
     }
 
     /// Does another heap hold the same model, from two root lists on? Yes if the objects that the roots lead to can be paired, each with one, so that the roots in order lead to pairs, the two of a pair have the same kind, type, start,
@@ -893,8 +945,8 @@ impl Heap {
     /// assert!(!first.same(&table, &[root], &second, &[other_hall])?);
     /// # Ok::<(), Refusal>(())
     /// ```
-    pub fn same(&self, types: &TypeTable, roots: &[Handle], other: &Heap, other_roots: &[Handle]) -> Result<bool, Refusal> {
-        Heap::yes(self.told(ask_beside!(self, yexwalu_same(types, roots, other, other_roots))))
+    pub fn same(&self, types: &(impl AnyTable + ?Sized), roots: &[Handle], other: &Heap, other_roots: &[Handle]) -> Result<bool, Refusal> {
+        Heap::yes(self.told_beside(other, ask_beside!(self, yexwalu_held_same, yexwalu_same(types, roots, other, other_roots))))
     }
 
     /// Which of two heaps comes first, from two root lists on: this one against the other. Equal just where `same` says yes, so that heaps can be sorted, and those that hold the same model stand together. The shorter root list comes
@@ -912,8 +964,8 @@ impl Heap {
     /// assert_eq!(heap.order(&table, &[a, b], &heap, &[a, b])?, Ordering::Equal);
     /// # Ok::<(), Refusal>(())
     /// ```
-    pub fn order(&self, types: &TypeTable, roots: &[Handle], other: &Heap, other_roots: &[Handle]) -> Result<Ordering, Refusal> {
-        let (first, _) = self.told(ask_beside!(self, yexwalu_order(types, roots, other, other_roots)))?;
+    pub fn order(&self, types: &(impl AnyTable + ?Sized), roots: &[Handle], other: &Heap, other_roots: &[Handle]) -> Result<Ordering, Refusal> {
+        let (first, _) = self.told_beside(other, ask_beside!(self, yexwalu_held_order, yexwalu_order(types, roots, other, other_roots)))?;
         // 0 less, 1 equal, 2 greater
         Ok(first.cmp(&1))
     }
@@ -944,7 +996,7 @@ impl Heap {
     #[allow(clippy::too_many_arguments)]
     pub fn collect_joined(
         &mut self,
-        types: &TypeTable,
+        types: &(impl AnyTable + ?Sized),
         function: &Function,
         pc: u32,
         values: &[u64],
@@ -962,7 +1014,7 @@ impl Heap {
     #[allow(clippy::too_many_arguments)]
     pub fn collect_joined_with(
         &mut self,
-        types: &TypeTable,
+        types: &(impl AnyTable + ?Sized),
         function: &Function,
         pc: u32,
         values: &[u64],
@@ -973,8 +1025,8 @@ impl Heap {
         rows: &mut [u64],
     ) -> Result<(), Refusal> {
         let map = FrameSlot::words(map);
-        let (f, s) = (function, self.scratch.get_mut());
-        let told = change_known!(self, yexwalu_held_collect_joined(
+        let (f, s, good, types) = (function, self.scratch.get_mut(), types.good(), types.table());
+        let told = change_known!(self, good, yexwalu_held_collect_joined(
             types.types.as_ptr(), types.types.len(), types.fields.as_ptr(), types.fields.len(),
             types.consts.as_ptr(), types.consts.len(), types.bytes.as_ptr(), types.bytes.len())
             (f.kinds.as_ptr(), f.kinds.len(), f.ends.as_ptr(), f.ends.len(), f.refs.as_ptr(), f.refs.len(), f.blocks.as_ptr(), f.blocks.len(),
@@ -991,8 +1043,7 @@ impl Heap {
         told.map(|_| ())
     }
 
-    /// Runs a script of calls, one a line: `alloc,TYPE,KIND,HEX`, `take,HANDLE,0,`, `seal,0,0,` and `recycle,0,0,`, each with byte 10 at its end. The heap is checked once, so this is the way to do
-    /// many calls. The first line that is refused, or is no such line (17), ends it; what the lines before it did stays. On a broken heap
+    /// Runs a script of calls, one a line: `alloc,TYPE,KIND,HEX`, `take,HANDLE,0,`, `seal,0,0,` and `recycle,0,0,`, each with byte 10 at its end. The first line that is refused, or is no such line (17), ends it; what the lines before it did stays. On a broken heap
     /// a first line that is no such line is 17, and all else is 1.
     ///
     /// ```
@@ -1006,14 +1057,24 @@ impl Heap {
     /// # Ok::<(), Refusal>(())
     /// ```
     pub fn run(&mut self, script: &[u8]) -> Result<(), Refusal> {
-        let mut room = vec![0; self.memory.pool.len()];
-        self.run_with(script, &mut room)
+        let pool = self.memory.pool.len();
+        let known = self.known.get();
+        // no line has more data than it has digits for
+        let mut room = vec![0; if known { pool.min(script.len() / 2) } else { pool }];
+        self.run_in(script, &mut room, known)
     }
 
-    /// As `run`, with lent room for the bytes of one object, at least as long as the pool (18).
+    /// As `run`, with lent room for the bytes of one object, at least as long as the pool (18). It is zero afterwards.
     pub fn run_with(&mut self, script: &[u8], room: &mut [u8]) -> Result<(), Refusal> {
-        let done = change!(&mut self.memory, self.scratch.get_mut(), yexwalu_run(self.header)(script.as_ptr(), script.len(), room.as_mut_ptr(), room.len()));
-        self.done(done).map(|_| ())
+        let enough = self.memory.pool.len() <= room.len();
+        self.run_in(script, room, enough)
+    }
+
+    // `enough`: as long as the pool, or as half of the script.
+    fn run_in(&mut self, script: &[u8], room: &mut [u8], enough: bool) -> Result<(), Refusal> {
+        let told = change_known!(self, enough, yexwalu_held_run()(script.as_ptr(), script.len(), room.as_mut_ptr(), room.len()),
+            change!(&mut self.memory, self.scratch.get_mut(), yexwalu_run(self.header)(script.as_ptr(), script.len(), room.as_mut_ptr(), room.len())));
+        told.map(|_| ())
     }
 
     /// Rehearses collection thresholds in memory of so many slots and bytes: for each, a new heap of tag 1 runs the lines of `text`, `alloc,TYPE,KIND,HEX`, `store,HELD,INTO,OFFSET` and `drop,HELD`, each with byte 10 at its end, with a
@@ -1240,7 +1301,7 @@ impl Heap {
     /// assert_eq!(heap.slot_handles(&table, heap.resolve(both)?)?, [Handle(7), Handle(8)]);
     /// # Ok::<(), Refusal>(())
     /// ```
-    pub fn slot_handles(&self, types: &TypeTable, slot: impl Into<Slot>) -> Result<Vec<Handle>, Refusal> {
+    pub fn slot_handles(&self, types: &(impl AnyTable + ?Sized), slot: impl Into<Slot>) -> Result<Vec<Handle>, Refusal> {
         let slot = slot.into();
         let mut out = vec![0; self.size_of(slot.at()) / 8];
         let n = self.slot_handles_into(types, slot, Handle::list_mut(&mut out))?;
@@ -1259,13 +1320,10 @@ impl Heap {
     /// assert_eq!(out[..n], [Handle(7), Handle(8)]);
     /// # Ok::<(), Refusal>(())
     /// ```
-    pub fn slot_handles_into(&self, types: &TypeTable, slot: impl Into<Slot>, out: &mut [Handle]) -> Result<usize, Refusal> {
+    pub fn slot_handles_into(&self, types: &(impl AnyTable + ?Sized), slot: impl Into<Slot>, out: &mut [Handle]) -> Result<usize, Refusal> {
         let slot = slot.into().at();
-        let told = ask_known!(self, yexwalu_held_slot_handles, yexwalu_slot_handles(
-            types.types.as_ptr(), types.types.len(), types.fields.as_ptr(), types.fields.len(),
-            types.consts.as_ptr(), types.consts.len(), types.bytes.as_ptr(), types.bytes.len())
-            (slot, out.as_mut_ptr().cast(), out.len()));
-        Ok(told?.0 as usize)
+        let answer = ask_typed!(self, types, yexwalu_held_slot_handles(slot, out.as_mut_ptr().cast(), out.len()) |_s| (), yexwalu_slot_handles);
+        Ok(self.told(answer)?.0 as usize)
     }
 
     /// The first slot that does not fit the type table: an object of kind Typed whose type the table has not, or whose handles can't be traced. `None` where all fit, so that page and table can be kept
@@ -1283,15 +1341,12 @@ impl Heap {
     /// assert_eq!(heap.misfit(&TypeTable::new())?, Some(Slot(0)));
     /// # Ok::<(), Refusal>(())
     /// ```
-    pub fn misfit(&self, types: &TypeTable) -> Result<Option<Slot>, Refusal> {
-        let answer = ask!(self, yexwalu_traceable(
-            types.types.as_ptr(), types.types.len(), types.fields.as_ptr(), types.fields.len(),
-            types.consts.as_ptr(), types.consts.len(), types.bytes.as_ptr(), types.bytes.len())
-            ());
+    pub fn misfit(&self, types: &(impl AnyTable + ?Sized)) -> Result<Option<Slot>, Refusal> {
+        let answer = ask_typed!(self, types, yexwalu_held_traceable() |_s| (), yexwalu_traceable);
         if answer.number == Refusal::Untraceable.number() {
             return Ok(Some(Slot(answer.first as u32)));
         }
-        Heap::pair(answer)?;
+        self.told(answer)?;
         Ok(None)
     }
 

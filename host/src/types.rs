@@ -467,6 +467,19 @@ impl TypeTable {
         }
     }
 
+    // The handles and the addresses of a frame of so many entries and bytes.
+    pub(crate) fn both_listed(entries: usize, bytes: usize, mut call: impl FnMut(&mut [Handle], &mut [u64]) -> Result<(usize, usize), Refusal>) -> Result<(Vec<Handle>, Vec<u64>), Refusal> {
+        let mut addresses = vec![0; entries];
+        let mut found = 0;
+        let handles = TypeTable::listed(entries + bytes / 8, |out| {
+            let (handles, rest) = call(out, &mut addresses)?;
+            found = rest;
+            Ok(handles)
+        })?;
+        addresses.truncate(found);
+        Ok((handles, addresses))
+    }
+
     /// The handles of an object's visible data: its descriptor, then its value. It is refused where the table is not in order (10) or the data can't be traced (13). Data beyond the value is not looked at.
     ///
     /// ```
@@ -546,15 +559,7 @@ impl TypeTable {
     /// # Ok::<(), Refusal>(())
     /// ```
     pub fn slot_roots(&self, map: &[FrameSlot], memory: &[u8]) -> Result<(Vec<Handle>, Vec<u64>), Refusal> {
-        let mut addresses = vec![0; map.len()];
-        let mut found = 0;
-        let handles = TypeTable::listed(map.len() + memory.len() / 8, |out| {
-            let (handles, rest) = self.slot_roots_into(map, memory, out, &mut addresses)?;
-            found = rest;
-            Ok(handles)
-        })?;
-        addresses.truncate(found);
-        Ok((handles, addresses))
+        TypeTable::both_listed(map.len(), memory.len(), |handles, addresses| self.slot_roots_into(map, memory, handles, addresses))
     }
 
     /// As `slot_roots`, with the handles and the addresses written to the front of lent lists (7). The answer is how many of each.

@@ -4,14 +4,10 @@ use mathlib.Core.Bool.{Bool, true, false}
 use mathlib.Core.List.{List, ◌++◌}
 use mathlib.Core.Option.{Option}
 use Prim.Native.Nat.{ℕ, ◌+◌, ◌*◌, ◌/◌, ◌^◌, ◌≤◌, ◌<◌}
-use native.Mathlib.Nat.{mul-le-mul_right}
-use native.Mathlib.Omega.{arith}
-use lib.ListN.{length, replicate}
 use Rattle.word.specs.Ones.{passing}
 use Rattle.rows.specs.Inner.Row.{bit_in, part}
-use Rattle.refusal.specs.Told.{nothing}
+use Rattle.refusal.specs.Told.{nothing, Reply}
 use Rattle.refusal.specs.declared.Refusal.TheVariants.{NoMap}
-use Rattle.refusal.specs.Told.{Reply}
 use Rattle.std.specs.Prelude.{Err}
 use Rattle.ty.specs.Types.{Table}
 use Rattle.heap.specs.Lent.{Lent as Heap, view}
@@ -21,20 +17,25 @@ use Rattle.heap.proofs.Testing.{formed-tested}
 use Rattle.flow.specs.Function.{safepoint}
 use Rattle.flow.specs.Dataflow.{live_before, live_row, holder, track}
 use Rattle.flow.proofs.Lists.{passing-same}
-use Rattle.roots.specs.View.{view as function_in}
-use Rattle.roots.specs.Calls.{Lent, function, right, need}
-use Rattle.roots.specs.Inner.Columns.{wanted, seen, cell, In}
-use Rattle.roots.specs.Inner.Plans.{planned, all_seen, out_row}
-use Rattle.roots.specs.declared.Tracked.{Tracked}
-use Rattle.roots.specs.declared.Tracked.TheVariants.{References}
-use Rattle.roots.specs.declared.Plan.{Plan}
-use Rattle.roots.proofs.Checks.{formed-fit}
-use Rattle.roots.proofs.Steps.{part-cell}
 use Rattle.roots.proofs.Answers.{need-is, found-holder, seen-holder}
 use Rattle.collection.specs.Joined.{is_reference, live_references, of_class, registers_of, values_of, joined_by, pins_at, joined}
 use Rattle.addresses.specs.Listed.{slots_of}
 use Rattle.mark.specs.Inner.Joining.{row_values}
 use Rattle.collect.specs.Inner.Safepoint.{at_safepoint, row_words, row_start, row_in, CanLook, RootRow}
+use Rattle.code.specs.View.{view as function_in}
+use Rattle.code.specs.Lent.{Lent, function, right, need}
+use Rattle.code.specs.Inner.Columns.{wanted, seen, In}
+use Rattle.liveness.specs.Inner.Scratch.{cell}
+use Rattle.code.specs.Inner.Plans.{planned, all_seen}
+use Rattle.liveness.specs.Inner.Plans.{out_row}
+use Rattle.code.specs.declared.Tracked.{Tracked}
+use Rattle.code.specs.declared.Tracked.TheVariants.{References}
+use Rattle.code.specs.declared.Plan.{Plan}
+use Rattle.code.proofs.Checks.{formed-fit}
+use Rattle.liveness.proofs.Steps.{part-cell}
+use native.Mathlib.Nat.{mul-le-mul_right}
+use native.Mathlib.Omega.{arith}
+use lib.ListN.{length, replicate}
 
 -- ---- places in the rows are words
 

@@ -18,17 +18,17 @@ use Rattle.heap.specs.Inner.Tells.{Tells}
 use Rattle.heap.proofs.Testing.{formed-tested}
 use Rattle.addresses.specs.Listed.{paired}
 use Rattle.flow.specs.Function.{safepoint}
-use Rattle.roots.specs.Calls.{Lent as Code, function, right, need}
 use Rattle.collect.specs.Collect.{collecting}
 use Rattle.collect.specs.Inner.Safepoint.{at_safepoint, CanLook}
 use Rattle.door.specs.HeapCalls.{Test, test, admitted, enough, zeros, scratch_after, outcome, outcome_of, Entry, ready}
 use Rattle.door.specs.Inner.Entered.{Entered}
 use Rattle.door.proofs.Entering.{fails, passes, more-ready, and-holds, and-fails, and-more, cleared-in, holding, call-refused, call-cleared, marks-zero, work-zero, rows-zero, zeros-again, zeros-room, fits-is, none_left}
-use Rattle.collect_door.specs.Calls.{Given, table_in, given_tests, tests, collect_call, Asked, table, frame, pinning, coded, roomy, row_tests, input_tests, joining, joined_call}
+use Rattle.collect_door.specs.Calls.{Given, table_in, given_tests, tests, collect_call, Asked, table, frame, pinning, coded, roomy, row_tests, input_tests, joining, joined_call, code_tests}
 use Rattle.collect_door.specs.Demand.{RightlyCollected, Demand}
 use Rattle.collect_door.proofs.Theorem.{collect-rightly, demand}
 use Rattle.word.specs.Lists.{rising}
 use Rattle.mark.specs.Inner.Scratch.{CanMark}
+use Rattle.code.specs.Lent.{Lent as Code, function, right, need}
 use lib.ListN.{length}
 use lib.Dec.{leb, eqb}
 use borrow.Author.Tests.{le-leb, leb-true, eq-eqb, ne_eqb, eqb-true}
@@ -126,59 +126,75 @@ module _ (n : ℕ) (m w r : List ℕ) (l : Lent) where
 
 -- ---- the inputs
 
+module _ (c : Code) (values pins addresses : List ℕ) (f : Bool) (ef : f ≡ right c) where
+  not-coded : coded c values ≡ false → Err Function ≡ admitted (code_tests c values pins addresses)
+  not-coded n = fails _ _ _ n
+
+  pub bad-code : f ≡ false → Err Function ≡ admitted (code_tests c values pins addresses)
+  unfolding coded
+  bad-code k = not-coded (simp (sym ef ∙ k))
+
+  module _ (k : f ≡ true) where
+    pub bad-values : (length values ≡ length c.classes → ⊥) → Err Function ≡ admitted (code_tests c values pins addresses)
+    unfolding coded
+    bad-values n = not-coded (simp (sym ef ∙ k, ne_eqb (length values) (length c.classes) n))
+
+    module _ (v : length values ≡ length c.classes) (p : Bool) (ep : p ≡ rising pins) where
+      is-coded : coded c values ≡ true
+      unfolding coded
+      is-coded = simp (sym ef ∙ k, eq-eqb (length values) (length c.classes) v)
+
+      pub bad-pins : p ≡ false → Err Pins ≡ admitted (code_tests c values pins addresses)
+      bad-pins n = passes _ _ _ is-coded (fails _ _ _ (sym ep ∙ n))
+
+      module _ (n : p ≡ true) (q : Bool) (eq : q ≡ paired addresses) where
+        pub bad-addresses : q ≡ false → Err Pins ≡ admitted (code_tests c values pins addresses)
+        bad-addresses m = passes _ _ _ is-coded (passes _ _ _ (sym ep ∙ n) (fails _ _ _ (sym eq ∙ m)))
+
+        pub good-code : q ≡ true → ready ≡ admitted (code_tests c values pins addresses)
+        good-code m = passes _ _ _ is-coded (passes _ _ _ (sym ep ∙ n) (passes _ _ _ (sym eq ∙ m) none_left))
+
+-- the type table first
 module _ (types fields consts bytes : List ℕ) (c : Code) (values pins addresses : List ℕ) (g : Bool) (eg : g ≡ table_good types fields consts bytes) where
   pub bad-table : g ≡ false → Err TypeTable ≡ admitted (input_tests types fields consts bytes c values pins addresses)
   bad-table h = fails _ _ _ (sym eg ∙ h)
 
-  module _ (h : g ≡ true) (f : Bool) (ef : f ≡ right c) where
-    not-coded : coded c values ≡ false → Err Function ≡ admitted (input_tests types fields consts bytes c values pins addresses)
-    not-coded n = passes _ _ _ (sym eg ∙ h) (fails _ _ _ n)
-
-    pub bad-code : f ≡ false → Err Function ≡ admitted (input_tests types fields consts bytes c values pins addresses)
-    unfolding coded
-    bad-code k = not-coded (simp (sym ef ∙ k))
-
-    module _ (k : f ≡ true) where
-      pub bad-values : (length values ≡ length c.classes → ⊥) → Err Function ≡ admitted (input_tests types fields consts bytes c values pins addresses)
-      unfolding coded
-      bad-values n = not-coded (simp (sym ef ∙ k, ne_eqb (length values) (length c.classes) n))
-
-      module _ (v : length values ≡ length c.classes) (p : Bool) (ep : p ≡ rising pins) where
-        is-coded : coded c values ≡ true
-        unfolding coded
-        is-coded = simp (sym ef ∙ k, eq-eqb (length values) (length c.classes) v)
-
-        pub bad-pins : p ≡ false → Err Pins ≡ admitted (input_tests types fields consts bytes c values pins addresses)
-        bad-pins n = passes _ _ _ (sym eg ∙ h) (passes _ _ _ is-coded (fails _ _ _ (sym ep ∙ n)))
-
-        module _ (n : p ≡ true) (q : Bool) (eq : q ≡ paired addresses) where
-          pub bad-addresses : q ≡ false → Err Pins ≡ admitted (input_tests types fields consts bytes c values pins addresses)
-          bad-addresses m = passes _ _ _ (sym eg ∙ h) (passes _ _ _ is-coded (passes _ _ _ (sym ep ∙ n) (fails _ _ _ (sym eq ∙ m))))
-
-          pub good-inputs : q ≡ true → ready ≡ admitted (input_tests types fields consts bytes c values pins addresses)
-          good-inputs m = passes _ _ _ (sym eg ∙ h) (passes _ _ _ is-coded (passes _ _ _ (sym ep ∙ n) (passes _ _ _ (sym eq ∙ m) none_left)))
+  pub good-table : g ≡ true → {e : Entry} → e ≡ admitted (code_tests c values pins addresses) → e ≡ admitted (input_tests types fields consts bytes c values pins addresses)
+  good-table h q = passes _ _ _ (sym eg ∙ h) q
 
 -- ---- all tests but the last: the inputs after other tests
 
-module _ {scratch scratch' : List (List ℕ)} {ts : List Test} {e : Entry} (s : Entered scratch ts e scratch') (types fields consts bytes : List ℕ) (c : Code) (values pins addresses : List ℕ) where
-  pub inputs-not : {why : Refusal} → e ≡ Err why → Entered scratch (ts ++ input_tests types fields consts bytes c values pins addresses) (Err why) scratch'
-  inputs-not i = and-more s (input_tests types fields consts bytes c values pins addresses) i
+module _ {scratch scratch' : List (List ℕ)} {ts : List Test} {e : Entry} (s : Entered scratch ts e scratch') (c : Code) (values pins addresses : List ℕ) where
+  code-zero : (b p q : Bool) → map zeros scratch ≡ scratch_after (if b then (if p then (if q then ready else Err Pins) else Err Pins) else Err Function) scratch
+  code-zero false p q = refl
+  code-zero true false q = refl
+  code-zero true true false = refl
+  code-zero true true true = refl
 
-  inputs-zero : (a b p q : Bool) → map zeros scratch ≡ scratch_after (if a then (if b then (if p then (if q then ready else Err Pins) else Err Pins) else Err Function) else Err TypeTable) scratch
-  inputs-zero false b p q = refl
-  inputs-zero true false p q = refl
-  inputs-zero true true false q = refl
-  inputs-zero true true true false = refl
-  inputs-zero true true true true = refl
-
-  pub inputs-entered : e ≡ ready → (f : Entry) → f ≡ admitted (input_tests types fields consts bytes c values pins addresses)
-      → Entered scratch (ts ++ input_tests types fields consts bytes c values pins addresses) f scratch'
+  pub code-entered : e ≡ ready → (f : Entry) → f ≡ admitted (code_tests c values pins addresses) → Entered scratch (ts ++ code_tests c values pins addresses) f scratch'
   unfolding admitted
-  inputs-entered i f q =
+  code-entered i f q =
       record {
-        found = q ∙ more-ready ts (input_tests types fields consts bytes c values pins addresses) (sym i ∙ s.found);
-        left = cleared-in s i ∙ (inputs-zero (table_good types fields consts bytes) (coded c values) (rising pins) (paired addresses) ∙ ap (λ (x : Entry). scratch_after x scratch) (sym q));
+        found = q ∙ more-ready ts (code_tests c values pins addresses) (sym i ∙ s.found);
+        left = cleared-in s i ∙ (code-zero (coded c values) (rising pins) (paired addresses) ∙ ap (λ (x : Entry). scratch_after x scratch) (sym q));
       }
+
+  module _ (types fields consts bytes : List ℕ) where
+    pub inputs-not : {why : Refusal} → e ≡ Err why → Entered scratch (ts ++ input_tests types fields consts bytes c values pins addresses) (Err why) scratch'
+    inputs-not i = and-more s (input_tests types fields consts bytes c values pins addresses) i
+
+    inputs-zero : (a b p q : Bool) → map zeros scratch ≡ scratch_after (if a then (if b then (if p then (if q then ready else Err Pins) else Err Pins) else Err Function) else Err TypeTable) scratch
+    inputs-zero false b p q = refl
+    inputs-zero true b p q = code-zero b p q
+
+    pub inputs-entered : e ≡ ready → (f : Entry) → f ≡ admitted (input_tests types fields consts bytes c values pins addresses)
+        → Entered scratch (ts ++ input_tests types fields consts bytes c values pins addresses) f scratch'
+    unfolding admitted
+    inputs-entered i f q =
+        record {
+          found = q ∙ more-ready ts (input_tests types fields consts bytes c values pins addresses) (sym i ∙ s.found);
+          left = cleared-in s i ∙ (inputs-zero (table_good types fields consts bytes) (coded c values) (rising pins) (paired addresses) ∙ ap (λ (x : Entry). scratch_after x scratch) (sym q));
+        }
 
 -- ---- the joined call
 

@@ -17,8 +17,6 @@ use Rattle.heap.proofs.Testing.{formed-tested}
 use Rattle.heap.proofs.Keeping.{leaves}
 use Rattle.flow.specs.Function.{Function, valid}
 use Rattle.flow.proofs.Validity.{parts-valid}
-use Rattle.roots.specs.Calls.{Lent as Code, function, right}
-use Rattle.roots.proofs.Forms.{formed-parts}
 use Rattle.reach.specs.Reach.{Graph, Starts, UntraceableFrom}
 use Rattle.collection.specs.Swept.{swept}
 use Rattle.collection.specs.Shown.{shown}
@@ -35,6 +33,8 @@ use Rattle.door.proofs.Entering.{all_hold}
 use Rattle.collect_door.specs.Calls.{Given, table_in, tests, collect_call, Asked, table, frame, pinning, coded, joined_tests, joining, joined_call}
 use Rattle.collect_door.specs.Demand.{done, Marks, Collected, objects_in, starts_in, RightlyCollected, StartsAt, Demand}
 use Rattle.collect_door.proofs.Refusing.{Two, succeeded, refuses-rightly}
+use Rattle.code.specs.Lent.{Lent as Code, function, right}
+use Rattle.code.proofs.Forms.{formed-parts}
 
 -- a collection that is done, of any roots: by what it does to the heap
 collects-rightly : (l l' : Lent) (handles : ℕ → Option (List ℕ)) (S : Starts) (r : Changed Unit)

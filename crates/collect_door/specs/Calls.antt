@@ -13,13 +13,13 @@ use Rattle.heap.specs.Lent.{Lent}
 use Rattle.heap.specs.WellFormed.{well_formed}
 use Rattle.heap.specs.Calls.{Changed}
 use Rattle.flow.specs.Function.{safepoint}
-use Rattle.roots.specs.Calls.{Lent as Code, function, right, need}
 use Rattle.addresses.specs.Listed.{paired}
 use Rattle.collection.specs.Joined.{joined}
 use Rattle.collection.specs.JoinedDemand.{Pinning}
 use Rattle.collect.specs.Collect.{collecting}
 use Rattle.door.specs.HeapCalls.{Test, test, enough, heap_tests, Outcome, calling}
 use Rattle.word.specs.Lists.{rising}
+use Rattle.code.specs.Lent.{Lent as Code, function, right, need}
 
 -- ---- collect: 18, 1, 10, 14, then 13
 
@@ -89,10 +89,13 @@ roomy words marks work rows l = enough marks work l && leb words (length rows)
 abbrev pub row_tests : (words : ℕ) (marks work rows : List ℕ) → Lent → List Test
 row_tests words marks work rows l = test (roomy words marks work rows l) Scratch ∷ test (well_formed l) BrokenHeap ∷ []
 
--- the type table, the function, the pins; a list of addresses out of order or not in pairs is 14 too
+-- the function, the pins; a list of addresses out of order or not in pairs is 14 too
+abbrev pub code_tests : Code → (values pins addresses : List ℕ) → List Test
+code_tests c values pins addresses = test (coded c values) Function ∷ test (rising pins) Pins ∷ test (paired addresses) Pins ∷ []
+
+-- the type table, then these
 abbrev pub input_tests : (types fields consts bytes : List ℕ) → Code → (values pins addresses : List ℕ) → List Test
-input_tests types fields consts bytes c values pins addresses =
-    test (table_good types fields consts bytes) TypeTable ∷ test (coded c values) Function ∷ test (rising pins) Pins ∷ test (paired addresses) Pins ∷ []
+input_tests types fields consts bytes c values pins addresses = test (table_good types fields consts bytes) TypeTable ∷ code_tests c values pins addresses
 
 -- and the safepoint
 abbrev pub joined_tests : Asked → (marks work rows : List ℕ) → Lent → List Test

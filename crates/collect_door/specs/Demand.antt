@@ -1,24 +1,22 @@
 -- Demand 3 of 01, for both public collections: nothing reached is lost, nothing else is kept. What is right of the answer and of every lent byte afterwards, whatever
 -- is lent. Said by chains of objects (crate `reach`) and by walks over the code (crate `flow`).
-use Rattle.std.specs.Prelude.{◌≡◌, true, List, [], ◌∷◌, map, ◌⊎◌, ◌↔◌, ℕ, ◌<◌, length, get_or}
+use Rattle.std.specs.Prelude.{◌≡◌, true, List, [], ◌∷◌, map, ◌⊎◌, ◌↔◌, ℕ, ◌<◌, length, get_or, Ok, Err}
 use Rattle.std.proofs.Math.Option.{some}
 use Rattle.refusal.specs.Told.{told}
 use Rattle.refusal.specs.declared.Refusal.{Refusal}
 use Rattle.refusal.specs.declared.Refusal.TheVariants.{Untraceable, Scratch}
-use Rattle.std.specs.Prelude.{Ok, Err}
 use Rattle.refusal.specs.declared.Answer.{Answer}
 use Rattle.heap.specs.Lent.{Lent, stored, view, slot_count, pool_size}
 use Rattle.heap.specs.WellFormed.{well_formed}
 use Rattle.reach.specs.Reach.{Graph, Starts, Reached, UntraceableFrom}
-use Rattle.roots.specs.Calls.{function}
 use Rattle.collection.specs.Swept.{swept}
 use Rattle.collection.specs.Shown.{shown}
 use Rattle.collection.specs.Collected.{graph, starts}
 use Rattle.collection.specs.Demand.{Survived}
 use Rattle.collection.specs.JoinedDemand.{JoinedStarts, Untraceable as CannotTrace}
-use Rattle.door.specs.HeapCalls.{Test, admitted, zeros, Outcome}
-use Rattle.door.specs.HeapCalls.{ready}
+use Rattle.door.specs.HeapCalls.{Test, admitted, zeros, Outcome, ready}
 use Rattle.collect_door.specs.Calls.{Given, table_in, tests, Asked, table, frame, pinning, joined_tests}
+use Rattle.code.specs.Lent.{function}
 
 -- a success has no values
 abbrev pub done : Answer

@@ -1,22 +1,23 @@
 // The joined collection as a host calls it: all is tested, then the heap is collected from the frame and the registers that are live at the safepoint.
 ghost use Rattle.std.specs.Prelude.{◌≡◌, [], ◌∷◌, ◌++◌, ◌+◌, ◌/◌};
 ghost use Rattle.heap.specs.Lent.{lent};
-ghost use Rattle.roots.specs.Calls.{need};
-ghost use Rattle.roots.specs.Inner.Plans.{lent as code_lent};
 ghost use Rattle.door.specs.HeapCalls.{admitted, outcome_of};
 ghost use Rattle.door.specs.Inner.Entered.{Entered};
-ghost use Rattle.collect_door.specs.Calls.{row_tests, input_tests, joined_call};
+ghost use Rattle.collect_door.specs.Calls.{row_tests, input_tests, joined_call, code_tests};
 ghost use Rattle.collect_door.specs.Demand.{Demand};
+ghost use Rattle.code.specs.Lent.{need};
+ghost use Rattle.code.specs.Inner.Plans.{lent as code_lent};
 
 use addresses::Pairs;
+use code::Code;
+use code::check::{check_function, rows_fit};
 use collect::joined::{Safepoint, collect_at};
 use door::Done;
 use heap::Heap;
 use heap::view_mut::ViewMut;
 use refusal::{Answer, Refusal};
-use roots::Code;
-use roots::check::{check_function, rows_fit};
 use ty::Table;
+use ty_check::check_table;
 
 // Is there scratch enough for the heap and for rows of so many blocks and registers, and is the heap well formed?
 fn enter_rows(
@@ -47,20 +48,15 @@ fn enter_rows(
     Err(Refusal::BrokenHeap)
 }
 
-// Are the type table, the function with its values, the pins and the list of addresses as they should be?
-pub fn admit_inputs(
-    table: &Table,
+// Are the function with its values, the pins and the list of addresses as they should be?
+pub fn admit_code(
     code: &Code,
     values: &[u64],
     pins: &[u32],
     addresses: &[u64],
 ) -> Result<(), Refusal>
-    ensures { result ≡ admitted (input_tests table.now.types.now table.now.fields.now table.now.consts.now table.now.bytes.now
-        (code_lent code.now) values.now pins.now addresses.now) }
+    ensures { result ≡ admitted (code_tests (code_lent code.now) values.now pins.now addresses.now) }
 {
-    if !table.check_table() {
-        return Err(Refusal::TypeTable);
-    }
     if !check_function(code) {
         return Err(Refusal::Function);
     }
@@ -74,6 +70,23 @@ pub fn admit_inputs(
         return Err(Refusal::Pins);
     }
     Ok(())
+}
+
+// Are the type table and these as they should be?
+fn admit_inputs(
+    table: &Table,
+    code: &Code,
+    values: &[u64],
+    pins: &[u32],
+    addresses: &[u64],
+) -> Result<(), Refusal>
+    ensures { result ≡ admitted (input_tests table.now.types.now table.now.fields.now table.now.consts.now table.now.bytes.now
+        (code_lent code.now) values.now pins.now addresses.now) }
+{
+    if !check_table(table) {
+        return Err(Refusal::TypeTable);
+    }
+    admit_code(code, values, pins, addresses)
 }
 
 // Do scratch, heap and all inputs let the collection look for the safepoint?

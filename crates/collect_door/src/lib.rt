@@ -14,14 +14,15 @@ use heap::Heap;
 use heap::view_mut::ViewMut;
 use refusal::{Answer, Refusal};
 use ty::Table;
+use ty_check::check_table;
 
 pub mod joined; // at a safepoint, from the frame and the live registers
 
 // Are the type table and the pins as they should be?
-pub fn admit_given(table: &Table, pins: &[u32]) -> Result<(), Refusal>
+fn admit_given(table: &Table, pins: &[u32]) -> Result<(), Refusal>
     ensures { result ≡ admitted (given_tests table.now.types.now table.now.fields.now table.now.consts.now table.now.bytes.now pins.now) }
 {
-    if !table.check_table() {
+    if !check_table(table) {
         return Err(Refusal::TypeTable);
     }
     if !heap_calls::recycle::rise(pins) {

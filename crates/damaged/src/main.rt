@@ -36,7 +36,7 @@ fn is_sevens(h: Heap) -> bool {
         && h.quarantine == 7
         && h.retired == 7
         && h.sealed == 7;
-    h.tag == 7 && numbers && h.log.iter().all(|x| *x == 7) && counts
+    h.tag == 7 && numbers && h.log == [7; 16] && counts
 }
 
 // Kept: a number and a flag that both always stand, since a refusal that changes something is what is looked for.
@@ -74,9 +74,7 @@ fn read_page(text: &[u8]) -> Seen {
         &mut marks,
         &mut work,
     );
-    let same_memory = narrow.iter().all(|x| *x == 7)
-        && wide.iter().all(|x| *x == 7)
-        && pool.iter().all(|x| *x == 7);
+    let same_memory = narrow == [7; 48] && wide == [7; 32] && pool == [7; 8];
     Seen {
         number: done.answer.number,
         same: same_memory && is_sevens(done.heap),
@@ -156,37 +154,37 @@ fn tally(
     new: &[u8],
 ) -> io::Result<()> {
     let all = read_everywhere(rt.alloc(), page, old, new)?;
-    print!(rt;
-        "{name}: 17 {} times, 1 {}",
-        count(&all, 17),
-        count(&all, 1)
-    )?;
-    println!(rt;
-        ", 6 {}, 5 {}, 0 {}",
-        count(&all, 6),
-        count(&all, 5),
-        count(&all, 0)
-    )
+    print!(rt; "{name}: 17 {} times", count(&all, 17))?;
+    for number in [1, 6, 5, 0] {
+        print!(rt; ", {number} {}", count(&all, number))?;
+    }
+    println!(rt; "")
 }
 
 // One damage at every place: a byte made another, dropped, added, the rest cut off.
 fn everywhere(rt: &(impl Print + AllocGlobal), title: &[u8], page: &[u8]) -> io::Result<()> {
+    let damages: [(&str, usize, &[u8]); 6] = [
+        ("cut short", page.len(), b""),
+        ("a byte made x", 1, b"x"),
+        ("a byte made 1", 1, b"1"),
+        ("a byte dropped", 1, b""),
+        ("a zero added", 0, b"0"),
+        ("a line's end added", 0, b"\n"),
+    ];
     rt.write_all(title)?;
     println!(rt; "")?;
-    tally(rt, "cut short", page, page.len(), b"")?;
-    tally(rt, "a byte made x", page, 1, b"x")?;
-    tally(rt, "a byte made 1", page, 1, b"1")?;
-    tally(rt, "a byte dropped", page, 1, b"")?;
-    tally(rt, "a zero added", page, 0, b"0")?;
-    tally(rt, "a line's end added", page, 0, b"\n")
+    for (name, old, new) in damages {
+        tally(rt, name, page, old, new)?;
+    }
+    Ok(())
 }
 
 // The byte that a byte of a line stands for.
-fn meant(b: u8) -> u8 {
-    match b {
+fn meant(b: &u8) -> u8 {
+    match *b {
         b';' => b'\n',
         b'^' => b'\r',
-        _ => b,
+        b => b,
     }
 }
 
@@ -194,7 +192,7 @@ fn meant(b: u8) -> u8 {
 fn run(rt: &(impl Print + AllocGlobal), input: &[u8]) -> io::Result<()> {
     let mut page: Vec<u8> = Vec::new(rt.alloc());
     for line in input.split(|b| *b == b'\n') {
-        let line: Vec<u8> = line.iter().map(|b| meant(*b)).collect(rt.alloc())?;
+        let line: Vec<u8> = line.iter().map(meant).collect(rt.alloc())?;
         let mut fields = line.splitn(3, |b| *b == b'|');
         let name = fields.next().unwrap_or(b"");
         match (fields.next(), fields.next()) {

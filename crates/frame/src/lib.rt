@@ -2,11 +2,11 @@
 #![tactic(auto)]
 
 ghost use Rattle.std.specs.Prelude.{◌≡◌, ◌%◌, length};
-ghost use Rattle.ty.specs.View.{lent};
 ghost use Rattle.trace.specs.Inner.Emit.{raw_of, into, slots_resolve, emit_all, emitting, told};
 ghost use Rattle.frame.specs.Frame.{entry, entries_of, first_word, entry_roots, entries_roots, frame_roots, frame_handles, frame_addresses};
 ghost use Rattle.frame.specs.Listing.{roots_listing};
 ghost use Rattle.frame.specs.Inner.Frames.{Frames};
+ghost use Rattle.ty.specs.Inner.Lent.{lent};
 
 use handle::Slots;
 use refusal::{Refusal, Reply};

@@ -1,4 +1,4 @@
--- What the tests find on a heap that is known to be well formed, and what follows for the collections. Assumes nothing.
+-- What the tests find on a heap that is known to be well formed, with a type table that is known to be in order, and what follows for the collections. Assumes nothing.
 use mathlib.Core.Path.{◌≡◌, refl, sym, ap, ◌∙◌}
 use mathlib.Core.Bool.{Bool, true, false, ◌&&◌}
 use mathlib.Core.List.{List, [], ◌∷◌, map}
@@ -6,22 +6,25 @@ use Prim.Native.Nat.{ℕ}
 use Rattle.std.specs.Prelude.{if◌then◌else◌, Err}
 use Rattle.refusal.specs.Told.{told, nothing, Reply}
 use Rattle.refusal.specs.declared.Answer.{Answer}
-use Rattle.refusal.specs.declared.Refusal.TheVariants.{BrokenHeap, Scratch}
+use Rattle.refusal.specs.declared.Refusal.TheVariants.{BrokenHeap, Scratch, TypeTable, Pins}
 use Rattle.heap.specs.Lent.{Lent, view, slot_count}
 use Rattle.heap.specs.WellFormed.{well_formed}
 use Rattle.heap.specs.Inner.Tells.{Tells}
 use Rattle.heap.specs.declared.Heap.{Heap}
-use Rattle.roots.specs.Calls.{function, need}
 use Rattle.collect.specs.Collect.{collecting}
 use Rattle.collect.specs.Inner.Safepoint.{at_safepoint}
 use Rattle.door.specs.HeapCalls.{Test, test, Entry, ready, admitted, enough, zeros, outcome, outcome_of}
 use Rattle.door.specs.Inner.Entered.{Entered}
-use Rattle.door.proofs.Entering.{fails, passes}
-use Rattle.collect_door.specs.Calls.{Given, table_in, given_tests, tests, collect_call, Asked, table, frame, pinning, roomy, input_tests, joined_call}
+use Rattle.door.proofs.Entering.{fails, passes, and-holds, and-fails}
+use Rattle.collect_door.specs.Calls.{Given, table_in, tests, collect_call, Asked, table, frame, pinning, roomy, joined_call, code_tests}
 use Rattle.collect_door.specs.Demand.{RightlyCollected, Demand}
 use Rattle.collect_door.proofs.Entries.{Admitted, collect-done, join-done}
 use Rattle.held.proofs.Holding.{headed, moved}
 use Rattle.held_collect.specs.Inner.Scratch.{fits, fits_rows}
+use Rattle.code.specs.Lent.{function, need}
+use Rattle.refusal.specs.declared.Refusal.{Refusal}
+use Rattle.ty.specs.Check.{table_good}
+use Rattle.word.specs.Lists.{rising}
 
 -- ---- scratch: a and b, there is enough of it
 
@@ -38,36 +41,50 @@ module _ (scratch : List (List ℕ)) (ts : List Test) (a : Bool) where
     too-few-rows t e f = record { found = fails (a && b) Scratch ts (simp (sym v ∙ t, sym e ∙ f)); left = refl }
 
 module _ {scratch scratch' : List (List ℕ)} (a : Bool) {p : Bool} (v : p ≡ a) (t : p ≡ true) where
-  pub cleared : scratch' ≡ map zeros scratch → Entered scratch (test a Scratch ∷ []) ready scratch'
-  unfolding admitted
-  cleared z = record { found = passes a Scratch [] (sym v ∙ t) refl; left = z }
+  module _ (z : scratch' ≡ map zeros scratch) where
+    cleared : Entered scratch (test a Scratch ∷ []) ready scratch'
+    unfolding admitted
+    cleared = record { found = passes a Scratch [] (sym v ∙ t) refl; left = z }
+
+    module _ (pins : List ℕ) {q : Bool} (e : q ≡ rising pins) where
+      pub no_pins : q ≡ false → Entered scratch (test a Scratch ∷ test (rising pins) Pins ∷ []) (Err Pins) scratch'
+      no_pins f = and-fails cleared {why = Pins} refl (sym e ∙ f) refl
+
+      pub pins-rise : q ≡ true → Entered scratch (test a Scratch ∷ test (rising pins) Pins ∷ []) ready scratch'
+      pins-rise f = and-holds cleared Pins refl (sym e ∙ f)
 
   pub rows-cleared : (b : Bool) {q : Bool} → q ≡ b → q ≡ true → scratch' ≡ map zeros scratch → Entered scratch (test (a && b) Scratch ∷ []) ready scratch'
   unfolding admitted
   rows-cleared b e u z = record { found = passes (a && b) Scratch [] (simp (sym v ∙ t, sym e ∙ u)) refl; left = z }
 
--- ---- the heap's test holds
+-- ---- the tests of the heap and of the table hold
+
+-- one that holds, after the first
+with-known : (b : Bool) (ts : List Test) (c : Bool) (why : Refusal) → c ≡ true → {scratch scratch' : List (List ℕ)} {e : Entry} → Entered scratch (test b Scratch ∷ ts) e scratch'
+    → Entered scratch (test b Scratch ∷ test c why ∷ ts) e scratch'
+unfolding admitted
+with-known b ts c why t s =
+    record {
+      found = s.found ∙ ap (λ (x : Entry). if b then x else Err Scratch) (passes c why ts t refl);
+      left = s.left;
+    }
+
+module _ (l : Lent) (known : well_formed l ≡ true) (types fields consts bytes : List ℕ) (good : table_good types fields consts bytes ≡ true) where
+  pub with-both : (b : Bool) (ts : List Test) {scratch scratch' : List (List ℕ)} {e : Entry} → Entered scratch (test b Scratch ∷ ts) e scratch'
+      → Entered scratch (test b Scratch ∷ test (well_formed l) BrokenHeap ∷ test (table_good types fields consts bytes) TypeTable ∷ ts) e scratch'
+  with-both b ts s = with-known b (test (table_good types fields consts bytes) TypeTable ∷ ts) (well_formed l) BrokenHeap known (with-known b ts (table_good types fields consts bytes) TypeTable good s)
 
 module _ (l : Lent) (known : well_formed l ≡ true) where
-  with-heap : (b : Bool) (ts : List Test) {scratch scratch' : List (List ℕ)} {e : Entry} → Entered scratch (test b Scratch ∷ ts) e scratch'
-      → Entered scratch (test b Scratch ∷ test (well_formed l) BrokenHeap ∷ ts) e scratch'
-  unfolding admitted
-  with-heap b ts s =
-      record {
-        found = s.found ∙ ap (λ (x : Entry). if b then x else Err Scratch) (passes (well_formed l) BrokenHeap ts known refl);
-        left = s.left;
-      }
-
-  pub given-known : (g : Given) {m w m' w' : List ℕ} {e : Entry}
-      → Entered (m ∷ w ∷ []) (fits (slot_count l) m w ∷ given_tests g.types g.fields g.consts g.bytes g.pins) e (m' ∷ w' ∷ []) → Entered (m ∷ w ∷ []) (tests g m w l) e (m' ∷ w' ∷ [])
+  pub given-known : (g : Given) → table_good g.types g.fields g.consts g.bytes ≡ true → {m w m' w' : List ℕ} {e : Entry}
+      → Entered (m ∷ w ∷ []) (fits (slot_count l) m w ∷ test (rising g.pins) Pins ∷ []) e (m' ∷ w' ∷ []) → Entered (m ∷ w ∷ []) (tests g m w l) e (m' ∷ w' ∷ [])
   unfolding enough
-  given-known g {m} {w} s = with-heap (enough m w l) (given_tests g.types g.fields g.consts g.bytes g.pins) s
+  given-known g good {m} {w} s = with-both l known g.types g.fields g.consts g.bytes good (enough m w l) (test (rising g.pins) Pins ∷ []) s
 
-  pub asked-known : (a : Asked) {m w r m' w' r' : List ℕ} {e : Entry}
-      → Entered (m ∷ w ∷ r ∷ []) (fits_rows (slot_count l) (need a.code) m w r ∷ input_tests a.types a.fields a.consts a.bytes a.code a.values a.pins a.addresses) e (m' ∷ w' ∷ r' ∷ [])
+  pub asked-known : (a : Asked) → table_good a.types a.fields a.consts a.bytes ≡ true → {m w r m' w' r' : List ℕ} {e : Entry}
+      → Entered (m ∷ w ∷ r ∷ []) (fits_rows (slot_count l) (need a.code) m w r ∷ code_tests a.code a.values a.pins a.addresses) e (m' ∷ w' ∷ r' ∷ [])
       → Admitted a l m w r m' w' r' e
   unfolding roomy enough
-  asked-known a {m} {w} {r} s = with-heap (roomy (need a.code) m w r l) (input_tests a.types a.fields a.consts a.bytes a.code a.values a.pins a.addresses) s
+  asked-known a good {m} {w} {r} s = with-both l known a.types a.fields a.consts a.bytes good (roomy (need a.code) m w r l) (code_tests a.code a.values a.pins a.addresses) s
 
 -- ---- what a call does on a header by value it does on the one in place
 

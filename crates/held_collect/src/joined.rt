@@ -1,27 +1,27 @@
-// The joined collection on a heap that is known to be well formed.
+// The joined collection on a heap that is known to be well formed, with a type table that is known to be in order.
 ghost use Rattle.std.specs.Prelude.{◌≡◌, true, [], ◌∷◌, ◌/◌, length};
 ghost use Rattle.heap.specs.WellFormed.{well_formed};
-ghost use Rattle.roots.specs.Calls.{need};
-ghost use Rattle.roots.specs.Inner.Plans.{lent as code_lent};
 ghost use Rattle.door.specs.HeapCalls.{outcome_of};
 ghost use Rattle.door.specs.Inner.Entered.{Entered};
-ghost use Rattle.collect_door.specs.Calls.{input_tests, joined_call};
+ghost use Rattle.collect_door.specs.Calls.{joined_call, code_tests};
 ghost use Rattle.collect_door.specs.Demand.{Demand};
 ghost use Rattle.held.specs.Held.{in_place};
 ghost use Rattle.held_collect.specs.Inner.Scratch.{fits_rows};
+ghost use Rattle.code.specs.Lent.{need};
+ghost use Rattle.code.specs.Inner.Plans.{lent as code_lent};
+ghost use Rattle.ty.specs.Check.{table_good};
 
 use addresses::Pairs;
+use code::Code;
+use code::check::rows_fit;
 use collect::joined::{Safepoint, collect_at};
-use collect_door::joined::admit_inputs;
+use collect_door::joined::admit_code;
 use heap::view_mut::ViewMut;
 use refusal::{Answer, Refusal};
-use roots::Code;
-use roots::check::rows_fit;
 use ty::Table;
 
 // Do scratch and all inputs let the collection look for the safepoint? Then scratch is zero.
 fn admit_joined(
-    table: &Table,
     narrow: &[u32],
     code: &Code,
     values: &[u64],
@@ -33,8 +33,7 @@ fn admit_joined(
 ) -> Result<(), Refusal>
     ensures { Entered (marks.old ∷ work.old ∷ rows.old ∷ [])
         (fits_rows (length narrow.now / 6) (need (code_lent code.now)) marks.old work.old rows.old
-        ∷ input_tests table.now.types.now table.now.fields.now table.now.consts.now table.now.bytes.now
-        (code_lent code.now) values.now pins.now addresses.now)
+        ∷ code_tests (code_lent code.now) values.now pins.now addresses.now)
         result (marks.new ∷ work.new ∷ rows.new ∷ []) }
 {
     if !door::scratch_fits(narrow, marks, work) {
@@ -46,7 +45,7 @@ fn admit_joined(
     marks.fill(0);
     work.fill(0);
     rows.fill(0);
-    admit_inputs(table, code, values, pins, addresses)
+    admit_code(code, values, pins, addresses)
 }
 
 // An object outlives the collection exactly if a chain leads to it from the pins, the seals, the handles of the frame or the values of the registers of class 4
@@ -80,7 +79,8 @@ pub fn yexwalu_held_collect_joined(
     work: &mut [u64],
     rows: &mut [u64],
 ) -> Answer
-    requires { well_formed (in_place tag.old numbers.old log.old lengths.old narrow.old wide.old pool.old) ≡ true }
+    requires formed { well_formed (in_place tag.old numbers.old log.old lengths.old narrow.old wide.old pool.old) ≡ true }
+    requires good { table_good types.now fields.now consts.now bytes.now ≡ true }
     ensures rows_after { outcome_of result (in_place tag.new numbers.new log.new lengths.new narrow.new wide.new pool.new)
         (marks.new ∷ work.new ∷ rows.new ∷ [])
         ≡ joined_call (record {
@@ -128,9 +128,7 @@ pub fn yexwalu_held_collect_joined(
         consts,
         bytes,
     };
-    match admit_joined(
-        &table, narrow, &code, values, pins, addresses, marks, work, rows,
-    ) {
+    match admit_joined(narrow, &code, values, pins, addresses, marks, work, rows) {
         Err(why) => Answer::from(Err(why)),
         Ok(()) => {
             let at = Safepoint {

@@ -1,15 +1,18 @@
-// The collections on a heap that is known to be well formed, as in `held`: each answers and leaves what the public call of its name does, without the test of the heap (1), and the heap is well formed again.
-// Its inputs are tested each time: scratch (18), the type table (10), the function (15), the pins and the list of addresses (14), the safepoint (16).
+// The collections on a heap that is known to be well formed, as in `held`, with a type table that is known to be in order: each answers and leaves what the public call of its name does, without the test of the heap (1) and
+// of the table (10), and the heap is well formed again. Its other inputs are tested each time: scratch (18), the function (15), the pins and the list of addresses (14), the safepoint (16).
 #![tactic(auto)]
 
 ghost use Rattle.std.specs.Prelude.{◌≡◌, true, [], ◌∷◌, ◌/◌, length};
 ghost use Rattle.heap.specs.WellFormed.{well_formed};
-ghost use Rattle.door.specs.HeapCalls.{outcome};
+ghost use Rattle.door.specs.HeapCalls.{outcome, test};
 ghost use Rattle.door.specs.Inner.Entered.{Entered};
-ghost use Rattle.collect_door.specs.Calls.{given_tests, collect_call};
+ghost use Rattle.collect_door.specs.Calls.{collect_call};
 ghost use Rattle.collect_door.specs.Demand.{RightlyCollected};
 ghost use Rattle.held.specs.Held.{in_place};
 ghost use Rattle.held_collect.specs.Inner.Scratch.{fits};
+ghost use Rattle.ty.specs.Check.{table_good};
+ghost use Rattle.word.specs.Lists.{rising};
+ghost use Rattle.refusal.specs.declared.Refusal.TheVariants.{Pins};
 
 use heap::view_mut::ViewMut;
 use refusal::{Answer, Refusal};
@@ -17,17 +20,15 @@ use ty::Table;
 
 pub mod joined; // at a safepoint, from the frame and the live registers
 
-// Do scratch, type table and pins let a collection begin? Then scratch is zero.
-fn admit(
-    table: &Table,
+// Do scratch and pins let a collection begin? Then scratch is zero.
+pub fn admit(
     narrow: &[u32],
     pins: &[u32],
     marks: &mut [u8],
     work: &mut [u64],
 ) -> Result<(), Refusal>
     ensures { Entered (marks.old ∷ work.old ∷ [])
-        (fits (length narrow.now / 6) marks.old work.old
-        ∷ given_tests table.now.types.now table.now.fields.now table.now.consts.now table.now.bytes.now pins.now)
+        (fits (length narrow.now / 6) marks.old work.old ∷ test (rising pins.now) Pins ∷ [])
         result (marks.new ∷ work.new ∷ []) }
 {
     if !door::scratch_fits(narrow, marks, work) {
@@ -35,7 +36,10 @@ fn admit(
     }
     marks.fill(0);
     work.fill(0);
-    collect_door::admit_given(table, pins)
+    if !heap_calls::recycle::rise(pins) {
+        return Err(Refusal::Pins);
+    }
+    Ok(())
 }
 
 // Drops the objects to which no chain leads from a root, a seal or a pin. Where a reached object can't be traced nothing changes.
@@ -57,7 +61,8 @@ pub fn yexwalu_held_collect(
     marks: &mut [u8],
     work: &mut [u64],
 ) -> Answer
-    requires { well_formed (in_place tag.old numbers.old log.old lengths.old narrow.old wide.old pool.old) ≡ true }
+    requires formed { well_formed (in_place tag.old numbers.old log.old lengths.old narrow.old wide.old pool.old) ≡ true }
+    requires good { table_good types.now fields.now consts.now bytes.now ≡ true }
     ensures work_after { outcome result (in_place tag.new numbers.new log.new lengths.new narrow.new wide.new pool.new)
         marks.new work.new
         ≡ collect_call
@@ -75,7 +80,7 @@ pub fn yexwalu_held_collect(
         consts,
         bytes,
     };
-    match admit(&table, narrow, pins, marks, work) {
+    match admit(narrow, pins, marks, work) {
         Err(why) => Answer::from(Err(why)),
         Ok(()) => {
             let heap = held::header(tag, numbers, log, lengths);

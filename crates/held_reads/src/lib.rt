@@ -1,23 +1,27 @@
-// What a heap that is known to be well formed is read for, as in `held`: the handles that a slot shows, and its page. The header is lent to be read. No scratch: the public calls use theirs for the test of the heap (1) alone.
+// What a heap that is known to be well formed is read for, as in `held`: the handles that a slot shows, whether it fits a type table, and its page. The header is lent to be read. No scratch: the public calls use theirs for the
+// test of the heap (1) alone. Nothing is required of a type table, which has an answer also where it is not in order (`held_types`): in one that is the answer is that of the public call.
 #![tactic(auto)]
 
-ghost use Rattle.std.specs.Prelude.{◌≡◌, true, [], length};
+ghost use Rattle.std.specs.Prelude.{◌≡◌, true, length};
 ghost use Rattle.word.specs.Result.{ok};
 ghost use Rattle.refusal.specs.Told.{answered, here, nothing};
 ghost use Rattle.heap.specs.Lent.{view};
 ghost use Rattle.heap.specs.WellFormed.{well_formed};
-ghost use Rattle.door.specs.HeapCalls.{asked_of};
 ghost use Rattle.pages.specs.Form.{written};
 ghost use Rattle.pages.specs.Page.{page_text};
 ghost use Rattle.pages.specs.Answer.{text_answer, text_out};
 ghost use Rattle.held.specs.Held.{in_place};
-ghost use Rattle.held_reads.specs.Slot.{held_slot_call, slot_out};
+ghost use Rattle.ty.specs.View.{table_of};
+ghost use Rattle.traced.specs.Listing.{written_to};
+ghost use Rattle.slot_door.specs.SlotHandles.{slot_handles};
+ghost use Rattle.slot_door.specs.Traceable.{misfit, misfit_told};
 
 use held::see;
-use refusal::{Answer, Refusal};
+use refusal::Answer;
 use ty::Table;
+use ty_check::check_table;
 
-// The handles that a live slot shows, in the order in which it is traced; they go to the lent list from its front on. 10, 9, 13, 7. First: how many.
+// The handles that a live slot shows, in the order in which it is traced; they go to the lent list from its front on. 9, 13, 7. First: how many.
 // Kept: the C interface lends the header and the heap in parts, and what a call here requires is said of these.
 pub fn yexwalu_held_slot_handles(
     types: &[u64],
@@ -35,10 +39,12 @@ pub fn yexwalu_held_slot_handles(
     out: &mut [u64],
 ) -> Answer
     requires { well_formed (in_place tag.now numbers.now log.now lengths.now narrow.now wide.now pool.now) ≡ true }
-    ensures answer { asked_of result [] ≡ held_slot_call types.now fields.now consts.now bytes.now
-        (in_place tag.now numbers.now log.now lengths.now narrow.now wide.now pool.now) slot out.old }
-    ensures out_after { out.new ≡ slot_out types.now fields.now consts.now bytes.now
-        (in_place tag.now numbers.now log.now lengths.now narrow.now wide.now pool.now) slot out.old }
+    ensures answer { result ≡ answered length nothing (slot_handles
+        (table_of types.now fields.now consts.now bytes.now) slot (length out.old)
+        (view (in_place tag.now numbers.now log.now lengths.now narrow.now wide.now pool.now))) }
+    ensures out_after { out.new ≡ written_to out.old (slot_handles
+        (table_of types.now fields.now consts.now bytes.now) slot (length out.old)
+        (view (in_place tag.now numbers.now log.now lengths.now narrow.now wide.now pool.now))) }
 {
     let table = Table {
         types,
@@ -46,11 +52,37 @@ pub fn yexwalu_held_slot_handles(
         consts,
         bytes,
     };
-    if !table.check_table() {
-        return Answer::from(Err(Refusal::TypeTable));
-    }
     let view = see(tag, numbers, log, lengths, narrow, wide, pool);
     Answer::from(slot_door::list_slot(&table, view, slot, out))
+}
+
+// Do the heap and a type table fit together: has every object of kind Typed a type of the table, and can its handles be traced? 13. After it, first: the first slot that does not fit.
+// Kept: the C interface lends the header and the heap in parts, and what a call here requires is said of these.
+pub fn yexwalu_held_traceable(
+    types: &[u64],
+    fields: &[u32],
+    consts: &[u64],
+    bytes: &[u8],
+    tag: &[u8; 1],
+    numbers: &[u64; 4],
+    log: &[u32; 16],
+    lengths: &[u64; 5],
+    narrow: &[u32],
+    wide: &[u64],
+    pool: &[u8],
+) -> Answer
+    requires { well_formed (in_place tag.now numbers.now log.now lengths.now narrow.now wide.now pool.now) ≡ true }
+    ensures { result ≡ misfit_told (misfit (table_of types.now fields.now consts.now bytes.now)
+        (view (in_place tag.now numbers.now log.now lengths.now narrow.now wide.now pool.now))) }
+{
+    let table = Table {
+        types,
+        fields,
+        consts,
+        bytes,
+    };
+    let view = see(tag, numbers, log, lengths, narrow, wide, pool);
+    slot_door::find_misfit(&table, view)
 }
 
 // First: how many bytes the heap's page has, with byte planes or data.

@@ -1,20 +1,28 @@
 -- What is sent is what the call tells. Assumes nothing.
-use mathlib.Core.Path.{◌≡◌, refl, ap, ◌∙◌}
+use mathlib.Core.Path.{◌≡◌, refl, sym, ap, ◌∙◌}
 use mathlib.Core.Bool.{Bool, true, false}
 use mir.Val.{bool_byte}
 use mathlib.Core.List.{List}
 use Prim.Native.Nat.{ℕ}
-use lib.ListN.{length}
-use Rattle.std.specs.Prelude.{Ok, if◌then◌else◌}
-use Rattle.word.specs.Result.{Result, ok}
-use Rattle.refusal.specs.Told.{told, answered, here, nothing}
+use Rattle.std.specs.Prelude.{Ok, Option, if◌then◌else◌, Some, None, Err}
+use Rattle.word.specs.Result.{Result, ok, refused}
+use Rattle.refusal.specs.Told.{told, answered, here, nothing, Reply}
 use Rattle.refusal.specs.declared.Answer.{Answer}
-use Rattle.refusal.specs.Told.{Reply}
 use Rattle.layout.specs.Offsets.{Values, written_by}
 use Rattle.traced.specs.Listing.{written_to}
 use Rattle.traced.specs.Inner.Lists.{Lists}
-use Rattle.held_types.specs.Laid.{laid}
+use Rattle.held_types.specs.Laid.{laid, sized}
 use Rattle.held_types.specs.declared.Laying.{Laying}
+use Rattle.refusal.specs.declared.Refusal.TheVariants.{Malformed}
+use Rattle.ty.specs.Check.{table_good}
+use Rattle.ty.specs.Walks.{desc_bytes}
+use Rattle.ty.specs.DescSize.{desc_size}
+use Rattle.ty.specs.View.{types_of}
+use Rattle.ty_check.proofs.Sizes.{exact}
+use Rattle.frame.specs.Listing.{Roots, handles_to, addresses_to}
+use Rattle.frame.specs.Inner.Frames.{Frames}
+use lib.ListN.{length}
+use native.Mathlib.Omega.{arith}
 
 pub lays :
     {r : Laying} {t u : Result Values} (offs out : List ℕ) {out' : List ℕ} → r ≡ laid t → t ≡ u → out' ≡ written_by t offs out → (r ≡ laid u) × (out' ≡ written_by u offs out)
@@ -22,6 +30,30 @@ lays offs out p q o = (p ∙ ap laid q, o ∙ ap (λ (z : Result Values). writte
 
 pub lists : {call : Result (List ℕ)} {x : Reply} {r : Answer} {out out' : List ℕ} → Lists call x out out' → r ≡ told x → (r ≡ answered length nothing call) × (out' ≡ written_to out call)
 lists d e = (e ∙ d.answer, d.written)
+
+sized-some : (x : Option ℕ) (n : ℕ) → x ≡ Some n → sized x ≡ ok n
+sized-some None n e = let z : ◌≡◌ {A = ℕ} 0 1 = cc in absurd (omega arith)
+sized-some (Some m) n e = let q : m ≡ n = cc in ap ok q
+
+sized-none : (x : Option ℕ) → x ≡ None → sized x ≡ refused 11
+sized-none None e = refl
+sized-none (Some m) e = let z : ◌≡◌ {A = ℕ} 0 1 = cc in absurd (omega arith)
+
+module _ {x y : Option ℕ} {r : Answer} (e : x ≡ y) where
+  pub size-told : {n : ℕ} → x ≡ Some n → r ≡ told (Ok (n, 0)) → r ≡ answered here nothing (sized y)
+  size-told {n} q t = t ∙ ap (answered here nothing) (sym (sized-some y n (sym e ∙ q)))
+
+  pub size-not : x ≡ None → r ≡ told (Err Malformed) → r ≡ answered here nothing (sized y)
+  size-not q t = t ∙ ap (answered here nothing) (sym (sized-none y (sym e ∙ q)))
+
+-- in a table that is in order the size in 64 bits is exact
+pub size-exact : (w fs cs b : List ℕ) (t : ℕ) → table_good w fs cs b ≡ true → {r : Answer}
+    → r ≡ answered here nothing (sized (desc_size (types_of w fs) t)) → r ≡ answered here nothing (sized (desc_bytes (types_of w fs) t))
+size-exact w fs cs b t g e = e ∙ ap (λ (x : Option ℕ). answered here nothing (sized x)) (exact w fs cs b g t)
+
+pub roots-told : {call : Result Roots} {x : Reply} {r : Answer} {hs ds hs' ds' : List ℕ} → Frames call x hs ds hs' ds' → r ≡ told x
+    → (r ≡ answered (λ c. length c.handles) (λ c. length c.addresses) call) × ((hs' ≡ handles_to hs call) × (ds' ≡ addresses_to ds call))
+roots-told s e = (e ∙ s.answer, (s.handles, s.addresses))
 
 -- b in numbers
 in-numbers : (b : Bool) → bool_byte b ≡ (if b then 1 else 0)

@@ -1,17 +1,21 @@
-// Calls with a type table that was checked once: what each public call of the name does, without the test (10). Nothing is required: the view of a table is total, so every table has an answer, also one that is
-// not in order. A host may use them on a table of which `yexwalu_layout` or another checked call did not say 10, as long as nobody changes it; then they answer what those do.
+// Calls with a type table that was checked once: what each public call of the name does, without the test (10). But for the size of a descriptor nothing is required: the view of a table is total, so every table has an answer, also
+// one that is not in order. A host may use them on a table of which `yexwalu_layout` or another checked call did not say 10, as long as nobody changes it; then they answer what those do.
 #![tactic(auto)]
 
-ghost use Rattle.std.specs.Prelude.{◌≡◌, length, if◌then◌else◌};
+ghost use Rattle.std.specs.Prelude.{◌≡◌, length, true, if◌then◌else◌};
 ghost use Rattle.word.specs.Result.{ok};
 ghost use Rattle.refusal.specs.Told.{answered, here, nothing};
 ghost use Rattle.ty.specs.View.{types_of, table_of};
-ghost use Rattle.ty.specs.Walks.{has_handles};
+ghost use Rattle.ty.specs.Walks.{has_handles, desc_bytes};
+ghost use Rattle.ty.specs.DescSize.{desc_size};
 ghost use Rattle.layout.specs.Offsets.{offsets_of, layout_call, written_by};
 ghost use Rattle.trace.specs.Places.{object_handles, value_handles};
 ghost use Rattle.traced.specs.Listing.{listing, written_to};
-ghost use Rattle.held_types.specs.Laid.{laid};
+ghost use Rattle.held_types.specs.Laid.{laid, sized};
 ghost use Rattle.layout.specs.Inner.Told.{told};
+ghost use Rattle.ty.specs.Check.{table_good};
+ghost use Rattle.frame.specs.Frame.{frame_handles, frame_addresses};
+ghost use Rattle.frame.specs.Listing.{roots_listing, handles_to, addresses_to};
 
 use refusal::{Answer, Refusal};
 use ty::Table;
@@ -81,6 +85,36 @@ pub fn yexwalu_held_layout(
     Laying::from(layout::lay_out(&table, t, desc, out))
 }
 
+// A descriptor's size in numbers, or that there is none (11).
+pub fn tell_size(table: &Table, t: u64) -> Answer
+    ensures { result ≡ answered here nothing (sized (desc_size (types_of table.now.types.now table.now.fields.now) t)) }
+{
+    let Some(n) = table.desc_size(t) else {
+        return Answer::from(Err(Refusal::Malformed));
+    };
+    Answer::from(Ok((n, 0)))
+}
+
+// The bytes of a descriptor of type t. In a table that is not in order a size of 64 bits need not be that of the definition.
+pub fn yexwalu_held_desc_size(
+    types: &[u64],
+    fields: &[u32],
+    consts: &[u64],
+    bytes: &[u8],
+    t: u64,
+) -> Answer
+    requires { table_good types.now fields.now consts.now bytes.now ≡ true }
+    ensures { result ≡ answered here nothing (sized (desc_bytes (types_of types.now fields.now) t)) }
+{
+    let table = Table {
+        types,
+        fields,
+        consts,
+        bytes,
+    };
+    tell_size(&table, t)
+}
+
 // Whether values of type t can hold handles: 1 or 0.
 pub fn yexwalu_held_has_handles(types: &[u64], fields: &[u32], t: u64) -> Answer
     ensures { result ≡ answered here nothing (ok (if has_handles (types_of types.now fields.now) t then 1 else 0)) }
@@ -141,4 +175,37 @@ pub fn yexwalu_held_value_handles(
         bytes,
     };
     Answer::from(traced::list_value(&table, t, data, out))
+}
+
+// The handles and the addresses of a frame's memory by its map, three words an entry (offset, kind, type), each into a lent list of its own. First: how many handles; second: how many addresses.
+pub fn yexwalu_held_slot_roots(
+    types: &[u64],
+    fields: &[u32],
+    consts: &[u64],
+    bytes: &[u8],
+    map: &[u32],
+    memory: &[u8],
+    handles: &mut [u64],
+    addresses: &mut [u64],
+) -> Answer
+    ensures answer { result ≡ answered (λ c. length c.handles) (λ c. length c.addresses) (roots_listing
+        (frame_handles (table_of types.now fields.now consts.now bytes.now) map.now memory.now)
+        (frame_addresses (table_of types.now fields.now consts.now bytes.now) map.now memory.now)
+        (length handles.old) (length addresses.old)) }
+    ensures handles_after { handles.new ≡ handles_to handles.old (roots_listing
+        (frame_handles (table_of types.now fields.now consts.now bytes.now) map.now memory.now)
+        (frame_addresses (table_of types.now fields.now consts.now bytes.now) map.now memory.now)
+        (length handles.old) (length addresses.old)) }
+    ensures addresses_after { addresses.new ≡ addresses_to addresses.old (roots_listing
+        (frame_handles (table_of types.now fields.now consts.now bytes.now) map.now memory.now)
+        (frame_addresses (table_of types.now fields.now consts.now bytes.now) map.now memory.now)
+        (length handles.old) (length addresses.old)) }
+{
+    let table = Table {
+        types,
+        fields,
+        consts,
+        bytes,
+    };
+    Answer::from(frame::list_roots(&table, map, memory, handles, addresses))
 }

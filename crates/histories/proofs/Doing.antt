@@ -16,7 +16,6 @@ use Rattle.heap.proofs.Sound.{Sound}
 use Rattle.heap.proofs.Storing.{well-stored}
 use Rattle.heap.proofs.Testing.{formed-tested, formed-test}
 use Rattle.heap_calls.specs.Objects.{object_start, object_size}
-use Rattle.roots.specs.Calls.{function}
 use Rattle.collection.specs.Joined.{joined}
 use Rattle.collect.specs.Collect.{collecting}
 use Rattle.door.specs.HeapCalls.{Test, admitted, whether, heap_tests, zeros, scratch_after, Outcome, outcome_of, calling, asked_of, asking as replying, Entry}
@@ -33,6 +32,7 @@ use Rattle.histories.specs.History.{after}
 use Rattle.histories.specs.Calls.{Scratch, Call, alloc_from, reissue as reissue_call, edit as edit_call, write as write_call, take as take_out, free as free_call, recycle as recycle_call, seal as seal_call, collect as collect_call, collect_joined, run, question, leaving, contract, turned, joined_step, line_step, unless_refused, line_steps, steps}
 use Rattle.histories.specs.Promises.{numbers, ended_by, ending, first_told, said_of, Does, CallsDoSteps, told_by, QuestionsAreCalls}
 use Rattle.histories.proofs.Histories.{after-grew}
+use Rattle.code.specs.Lent.{function}
 use lib.ListN.{length}
 
 -- ---- what is done where the tests are passed, and where not

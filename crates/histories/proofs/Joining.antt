@@ -2,8 +2,8 @@
 use Rattle.word.proofs.Bools.{and_both}
 use Rattle.heap.specs.Lent.{view}
 use Rattle.flow.proofs.Validity.{parts-valid}
-use Rattle.roots.specs.Calls.{function}
-use Rattle.roots.proofs.Forms.{formed-parts}
+use Rattle.code.specs.Lent.{function}
+use Rattle.code.proofs.Forms.{formed-parts}
 use Rattle.collection.proofs.Registers.{joined-starts}
 use Rattle.door.proofs.Entering.{all_hold}
 use Rattle.collect_door.specs.Calls.{pinning, coded, joined_tests}

@@ -7,7 +7,6 @@ use Rattle.refusal.specs.Told.{number_of, here, nothing}
 use Rattle.heap.specs.State.{State}
 use Rattle.heap.specs.Lent.{Lent, view, slot_count, pool_size}
 use Rattle.heap.specs.Calls.{edit as edited, write as written, reissue as reissued, free as freed}
-use Rattle.roots.specs.Calls.{function}
 use Rattle.collection.specs.Joined.{values_of, root_registers, pins_at}
 use Rattle.door.specs.HeapCalls.{Test, admitted, whether, heap_tests, Outcome, outcome_of, heap_call, Asked as Reply, asking as replying}
 use Rattle.object_door.specs.ObjectCalls.{allocating, recycling, take_call}
@@ -18,6 +17,7 @@ use Rattle.script.specs.Calls.{Call as LineCall, alloc as alloc_line, take as ta
 use Rattle.script.specs.Reading.{call_of}
 use Rattle.run_door.specs.Run.{run_tests, run_call}
 use Rattle.histories.specs.Steps.{Told, Step, alloc as alloc_step, reissue as reissue_step, edit as edit_step, write as write_step, take as take_step, free as free_step, recycle as recycle_step, seal as seal_step, collect as collect_step, ask, doing, Value}
+use Rattle.code.specs.Lent.{function}
 
 -- ---- the calls
 

@@ -2,16 +2,12 @@
 use mathlib.Core.Path.{◌≡◌, refl, sym, ap, ◌∙◌}
 use mathlib.Core.List.{List}
 use Prim.Native.Nat.{ℕ, ◌+◌, ◌/◌, ◌≤◌}
-use native.Mathlib.Omega.{arith}
-use lib.ListN.{length, take}
-use lib.Seq.{take-length}
-use borrow.Author.Tests.{le-leb}
 use Rattle.std.specs.Prelude.{Option, Some, None, Ok, Err}
 use Rattle.word.specs.Put.{put}
 use Rattle.word.proofs.PutLaws.{mid-put}
 use Rattle.refusal.specs.declared.Refusal.{Refusal}
 use Rattle.ty.specs.Words.{word_of, round_up, Word}
-use Rattle.ty.specs.View.{fields_from, entry_at, lent}
+use Rattle.ty.specs.View.{fields_from, entry_at}
 use Rattle.ty.specs.declared.Entry.TheVariants.{Record}
 use Rattle.ty.specs.declared.Table.{Table as Lent}
 use Rattle.layout.specs.Layout.{Lay, placed, layout_at, layout_of}
@@ -22,6 +18,11 @@ use Rattle.layout.specs.declared.Layout.{Layout}
 use Rattle.layout.proofs.LayLaws.{in-record}
 use Rattle.layout.proofs.OffsetLaws.{fields-are, length_fields}
 use Rattle.layout.proofs.Complete.{all_placed}
+use Rattle.ty.specs.Inner.Lent.{lent}
+use native.Mathlib.Omega.{arith}
+use lib.ListN.{length, take}
+use lib.Seq.{take-length}
+use borrow.Author.Tests.{le-leb}
 
 -- ---- where a field ends, in two steps
 

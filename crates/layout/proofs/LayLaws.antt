@@ -3,17 +3,13 @@ use mathlib.Core.Path.{◌≡◌, refl, sym, ap, ◌∙◌}
 use mathlib.Core.List.{List}
 use mathlib.Core.Bool.{Bool, true, false}
 use Prim.Native.Nat.{ℕ, suc, ◌+◌, ◌-◌, ◌*◌, ◌/◌, ◌^◌, ◌≤◌, ◌<◌, max}
-use native.Mathlib.Omega.{arith}
-use lib.ListN.{length, take, drop, get_or, length-drop}
-use lib.Dec.{eqb}
-use borrow.Author.Tests.{eq-eqb, ne_eqb}
 use Rattle.std.specs.Prelude.{Option, Some, None, Ok, Err, unwrap_or, if◌then◌else◌}
 use Rattle.refusal.specs.declared.Refusal.{Refusal}
 use Rattle.refusal.specs.declared.Refusal.TheVariants.{Malformed, TooLarge}
 use Rattle.ty.specs.Types.{Ty, Ty.missing, Ty.int, Ty.physical, Ty.enum, Ty.real, Ty.array, Ty.fields, Ty.access, Ty.file, Ty.protected, type_at, Const, Const.plain, Const.other, Table, const_at, none}
 use Rattle.ty.specs.Words.{Word}
 use Rattle.ty.specs.Scalars.{scalar_size, elem_size, logic_leaf}
-use Rattle.ty.specs.View.{read_ty, read_entry, entry_at, fields_from, part_at, read_part, types_of, consts_of, lent, bare}
+use Rattle.ty.specs.View.{read_ty, read_entry, entry_at, fields_from, part_at, read_part, types_of, consts_of}
 use Rattle.ty.specs.declared.Entry.{Entry}
 use Rattle.ty.specs.declared.Entry.TheVariants.{Int, Physical, Enum, Real, Array, Record, Access, File, Protected}
 use Rattle.ty.specs.declared.Table.{Table as Lent}
@@ -25,6 +21,12 @@ use Rattle.layout.specs.Inner.Lent.{scalar_part}
 use Rattle.layout.specs.declared.Layout.{Layout}
 use Rattle.word.proofs.ListLaws.{rest}
 use Rattle.layout.proofs.Within.{used-within, dims-within}
+use Rattle.ty.specs.Inner.Lent.{lent}
+use Rattle.ty.specs.Inner.Rows.{bare}
+use native.Mathlib.Omega.{arith}
+use lib.ListN.{length, take, drop, get_or, length-drop}
+use lib.Dec.{eqb}
+use borrow.Author.Tests.{eq-eqb, ne_eqb}
 
 -- what an element or a field uses of that part
 pub rest-used : (T : Table) (n e c a : ℕ) (d : List ℕ) (l : Lay) → l ≡ under T (layout_at T n) e c (take (length d - a) (drop a d)) → (v : Layout) → l ≡ Ok v → (u' : ℕ) → u' ≡ used_by c v.used → a ≤ length d → a + u' ≤ length d

@@ -9,7 +9,7 @@ use Rattle.refusal.specs.declared.Refusal.{Refusal}
 use Rattle.refusal.specs.declared.Refusal.TheVariants.{ShortList}
 use Rattle.ty.specs.Types.{Field, Field.field, Table, type_at}
 use Rattle.ty.specs.Words.{word_of, on_word, round_up, Word}
-use Rattle.ty.specs.View.{fields_from, read_ty, read_entry, entry_at, types_of, lent}
+use Rattle.ty.specs.View.{fields_from, read_ty, read_entry, entry_at, types_of}
 use Rattle.ty.specs.declared.Entry.{Entry}
 use Rattle.ty.specs.declared.Entry.TheVariants.{Int, Physical, Enum, Real, Array, Record, Access, File, Protected}
 use Rattle.ty.specs.declared.Table.{Table as Lent}
@@ -20,6 +20,7 @@ use Rattle.layout.specs.Offsets.{offsets_from, offsets_of, fields_of, layout_cal
 use Rattle.layout.specs.Inner.Told.{told}
 use Rattle.layout.specs.declared.Layout.{Layout}
 use Rattle.word.proofs.ListLaws.{rest}
+use Rattle.ty.specs.Inner.Lent.{lent}
 use native.Mathlib.Nat.{zero-add}
 use native.Mathlib.Omega.{arith}
 use lib.ListN.{length, take, drop, get_or, set}

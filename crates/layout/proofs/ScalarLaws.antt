@@ -3,17 +3,12 @@ use mathlib.Core.Path.{◌≡◌, refl, sym, ap, ◌∙◌}
 use mathlib.Core.List.{List, []}
 use mathlib.Core.Bool.{Bool, true, false}
 use Prim.Native.Nat.{ℕ, ◌+◌, ◌-◌, ◌*◌, ◌/◌, ◌≤◌, ◌<◌, max}
-use native.Mathlib.Nat.{div-add-mod', le-max_right, max-le}
-use native.Mathlib.Omega.{arith}
-use lib.ListN.{length, get_or, set}
-use lib.Dec.{eqb, leb}
-use borrow.Author.Tests.{le-leb, leb-true, leb-false}
 use Rattle.std.specs.Prelude.{Some, None, Ok, is_some, IsSome, if◌then◌else◌}
 use Rattle.word.specs.Num.{align_up}
 use Rattle.ty.specs.Types.{Ty, Ty.missing, Ty.int, Ty.physical, Ty.enum, Ty.real, Ty.array, Ty.fields, Ty.access, Ty.file, Ty.protected, type_at, none}
 use Rattle.ty.specs.Words.{word_of, round_up, Word}
 use Rattle.ty.specs.Scalars.{scalar_size}
-use Rattle.ty.specs.View.{fields_from, entry_at, lent}
+use Rattle.ty.specs.View.{fields_from, entry_at}
 use Rattle.ty.specs.declared.Entry.TheVariants.{Record}
 use Rattle.ty.specs.declared.Table.{Table as Lent}
 use Rattle.ty.proofs.Laws.{word-is}
@@ -25,6 +20,12 @@ use Rattle.layout.specs.Inner.Lent.{scalar_part, record_in, ScalarFields, Scalar
 use Rattle.layout.specs.declared.Layout.{Layout}
 use Rattle.layout.proofs.LayLaws.{below-scalar, in-record, record-first, record-last, record-more}
 use Rattle.layout.proofs.OffsetLaws.{Writing, writing_start, writing-same, writing-place, writing-stop, writing-next, off-last, off-more, fields-are, length_fields}
+use Rattle.ty.specs.Inner.Lent.{lent}
+use native.Mathlib.Nat.{div-add-mod', le-max_right, max-le}
+use native.Mathlib.Omega.{arith}
+use lib.ListN.{length, get_or, set}
+use lib.Dec.{eqb, leb}
+use borrow.Author.Tests.{le-leb, leb-true, leb-false}
 
 -- ---- scalar_fields
 

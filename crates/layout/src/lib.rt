@@ -7,11 +7,12 @@ ghost use Rattle.word.specs.Put.{put};
 ghost use Rattle.ty.specs.Types.{type_at};
 ghost use Rattle.ty.specs.Words.{word_of, round_up};
 ghost use Rattle.ty.specs.Scalars.{scalar_size, elem_size};
-ghost use Rattle.ty.specs.View.{lent, bare};
 ghost use Rattle.layout.specs.Layout.{dim_len, dims_of, used_by, array_laid, placed, end_of, scalar_laid, scalar_layout};
 ghost use Rattle.layout.specs.Offsets.{offsets_of, listed_in, layout_call, written_by};
 ghost use Rattle.layout.specs.Inner.Told.{told};
 ghost use Rattle.layout.specs.Inner.Lent.{scalar_part, type_laid, part_laid, array_in, record_in, offsets_in, ScalarFields, ScalarRecord, ScalarsLaid, FewFields, FieldsListed};
+ghost use Rattle.ty.specs.Inner.Lent.{lent};
+ghost use Rattle.ty.specs.Inner.Rows.{bare};
 
 use refusal::Refusal;
 use ty::{Entry, NO_CONST, Table};

@@ -2,7 +2,6 @@
 // of the addresses that the frame and the registers have.
 ghost use Rattle.std.specs.Prelude.{◌≡◌, ◌++◌, ◌+◌, ◌/◌, length};
 ghost use Rattle.heap.specs.Inner.Seen.{state as heap_state};
-ghost use Rattle.ty.specs.View.{lent};
 ghost use Rattle.rows.specs.Inner.Row.{listed};
 ghost use Rattle.frame.specs.Frame.{entries_of};
 ghost use Rattle.frame.specs.Inner.Words.{entries_words};
@@ -13,6 +12,7 @@ ghost use Rattle.mark.specs.Inner.Queues.{state, IsReady, Becomes};
 ghost use Rattle.mark.specs.Inner.Told.{told, marks_in, Ready};
 ghost use Rattle.mark.specs.Inner.Joining.{in_use, taking, value_of, joined_from, joined_marks};
 ghost use Rattle.mark.specs.Inner.Safepoints.{live_values, handles_in, pinned_in};
+ghost use Rattle.ty.specs.Inner.Lent.{lent};
 
 use crate::objects::{Objects, seals};
 use crate::queue::Queue;

@@ -3,13 +3,13 @@
 
 ghost use Rattle.std.specs.Prelude.{◌≡◌, true, ◌/◌, length};
 ghost use Rattle.text.specs.Inner.Wrote.{Wrote};
-ghost use Rattle.ty.specs.View.{lent as tabled};
 ghost use Rattle.heap.specs.Lent.{lent};
 ghost use Rattle.rehearsal.specs.Reading.{is_text};
 ghost use Rattle.rehearsal.specs.Runs.{figures_line};
 ghost use Rattle.rehearsal_steps.specs.Inner.Going.{ended, InOrder, Cleared, Goes};
 ghost use Rattle.rehearsal_runs.specs.Runs.{lines_of, run_of};
 ghost use Rattle.rehearsal_runs.specs.Inner.Runs.{Begun, LentRoom, CanPut, CanRehearse, figures_in, Rehearses};
+ghost use Rattle.ty.specs.Inner.Lent.{lent as tabled};
 
 use heap::Heap;
 use refusal::Refusal;

@@ -15,6 +15,7 @@ use heap::Heap;
 use refusal::{Answer, Refusal};
 use rehearsal_runs::{Rehearsal, rehearse_all};
 use ty::Table;
+use ty_check::check_table;
 
 // Do scratch, text, lent sizes, type table and output let it begin?
 fn admit(
@@ -49,7 +50,7 @@ fn admit(
     if !heap::sizes_fit(narrow.len(), wide.len(), pool.len()) {
         return Err(Refusal::BrokenHeap);
     }
-    if !what.table.check_table() {
+    if !check_table(&what.table) {
         return Err(Refusal::TypeTable);
     }
     if out.len() / 80 < what.thresholds.len() {

@@ -3,24 +3,25 @@ use mathlib.Core.Path.{◌≡◌, refl, sym, ap, ap₂, ◌∙◌, subst}
 use mathlib.Core.Bool.{Bool, true, false, not, ◌||◌, true≢false}
 use mathlib.Core.List.{List, flat_map}
 use Prim.Native.Nat.{ℕ, ◌≤◌, ◌<◌}
-use lib.ListN.{length, replicate}
-use lib.Dec.{ltb}
-use borrow.Author.Tests.{lt-ltb, le-ltb, ltb-false}
 use Rattle.word.specs.Result.{Result, ok, refused}
 use Rattle.word.specs.Ones.{passing}
 use Rattle.word.specs.Put.{put}
 use Rattle.flow.specs.Function.{safepoint, safepoints}
 use Rattle.refusal.specs.Told.{answered, refused_by}
 use Rattle.refusal.specs.declared.Answer.{Answer}
-use Rattle.roots.specs.Calls.{Lent, function, right, need, after, rows_after, registers_at}
-use Rattle.roots.specs.Inner.Columns.{wanted}
-use Rattle.roots.specs.Inner.Plans.{planned}
-use Rattle.roots.specs.declared.Tracked.{Tracked}
-use Rattle.roots.specs.declared.Plan.{Plan}
-use Rattle.roots.proofs.Forms.{code-count, formed-parts}
+use Rattle.roots.specs.Calls.{after, rows_after, registers_at}
 use Rattle.roots.proofs.Answers.{yes-then, no-then}
 use Rattle.root_map.specs.Calls.{limits, Size, points_in, registers_in, live_refs_answer, LiveRefsCall}
 use Rattle.root_map.specs.Inner.Columns.{points_to, Counted, Fits, Written}
+use Rattle.code.specs.Lent.{Lent, function, right, need}
+use Rattle.code.specs.Inner.Columns.{wanted}
+use Rattle.code.specs.Inner.Plans.{planned}
+use Rattle.code.specs.declared.Tracked.{Tracked}
+use Rattle.code.specs.declared.Plan.{Plan}
+use Rattle.code.proofs.Forms.{code-count, formed-parts}
+use lib.ListN.{length, replicate}
+use lib.Dec.{ltb}
+use borrow.Author.Tests.{lt-ltb, le-ltb, ltb-false}
 
 neither : (a b : Bool) → a || b ≡ false → (a ≡ false) × (b ≡ false)
 neither false b h = (refl, h)

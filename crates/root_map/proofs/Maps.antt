@@ -15,12 +15,13 @@ use Rattle.word.proofs.OnesLaws.{passing-append}
 use Rattle.word.proofs.PutLaws.{put-none, put_all, put_front, put_whole, length-put}
 use Rattle.rows.specs.Inner.Row.{listed}
 use Rattle.flow.specs.Function.{safepoint}
-use Rattle.roots.specs.View.{view, formed}
+use Rattle.code.specs.View.{view, formed}
 use Rattle.root_map.specs.Calls.{limits}
-use Rattle.roots.specs.Inner.Columns.{Outside, Found}
+use Rattle.code.specs.Inner.Columns.{Found}
+use Rattle.liveness.specs.Inner.Scratch.{Outside}
 use Rattle.root_map.specs.Inner.Columns.{row_at, points_to, live_of, Standing, Pointed, Counted, Fits, Written}
-use Rattle.roots.proofs.Checks.{formed-fit}
-use Rattle.roots.proofs.Scratch.{mid-length, outside_refl, outside_trans}
+use Rattle.code.proofs.Checks.{formed-fit}
+use Rattle.liveness.proofs.Scratch.{mid-length, outside_refl, outside_trans}
 use Rattle.root_map.proofs.Pointing.{found-end, standing-none, standing-next}
 
 pub back_one : (i : ℕ) → 0 < i → i ≡ (i - 1) + 1

@@ -10,10 +10,13 @@ use native.Mathlib.Decide.{ℕ_discrete, dec_lt}
 use lib.ListN.{length, get_or}
 use Rattle.flow.specs.Function.{Function, safepoint, end, reads, writes}
 use Rattle.flow.specs.Dataflow.{turn, back, out, live_in, live_before}
-use Rattle.roots.specs.View.{view, formed}
-use Rattle.roots.specs.Inner.Columns.{seen, cell, live_at, Outside, Fixed, Found, First, Keyed, Separate, Inside}
-use Rattle.roots.proofs.Scratch.{end-view, outside_refl, live-frame}
-use Rattle.roots.proofs.Passes.{linked-out}
+use Rattle.code.specs.View.{view, formed}
+use Rattle.code.specs.Inner.Columns.{seen, Found, Separate, Inside}
+use Rattle.liveness.specs.Inner.Scratch.{cell, live_at, Outside, Fixed}
+use Rattle.liveness.specs.Inner.Chains.{First, Keyed}
+use Rattle.code.proofs.Views.{end-view}
+use Rattle.liveness.proofs.Scratch.{outside_refl, live-frame}
+use Rattle.liveness.proofs.Passes.{linked-out}
 use Rattle.roots.proofs.Answers.{live-row-cells, row_listed, row-registers, found-held, found-holder, seen-holder, is-safepoint, not-safepoint, not-held}
 use Rattle.root_map.specs.Inner.Columns.{Standing, Pointed}
 

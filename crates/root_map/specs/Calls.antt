@@ -1,12 +1,13 @@
 -- What `live_refs` answers, and what it leaves (01, "Live map" and "What the host is told"): the refusals in their order, 18, 15, 7.
 use Rattle.std.specs.Prelude.{◌≡◌, Bool, not, ◌||◌, ℕ, ◌+◌, ltb, length, if◌then◌else◌}
-use mathlib.Core.List.{List, [], ◌∷◌, flat_map}
 use Rattle.word.specs.Result.{Result, ok, refused}
 use Rattle.word.specs.Put.{put}
 use Rattle.refusal.specs.Told.{answered}
 use Rattle.refusal.specs.declared.Answer.{Answer}
 use Rattle.flow.specs.Function.{safepoints}
-use Rattle.roots.specs.Calls.{Lent, function, right, need, after, rows_after, registers_at}
+use Rattle.roots.specs.Calls.{after, rows_after, registers_at}
+use Rattle.code.specs.Lent.{Lent, function, right, need}
+use mathlib.Core.List.{List, [], ◌∷◌, flat_map}
 
 -- where the registers of each end, if the first begin at `from`
 abbrev pub limits : (ℕ → List ℕ) → ℕ → List ℕ → List ℕ

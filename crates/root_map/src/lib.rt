@@ -7,15 +7,18 @@ ghost use Rattle.flow.specs.Dataflow.{live_before};
 ghost use Rattle.word.specs.Put.{put};
 ghost use Rattle.refusal.specs.Told.{told};
 ghost use Rattle.root_map.specs.Calls.{LiveRefsCall};
-ghost use Rattle.roots.specs.Inner.Columns.{wanted, cell, Outside, Fixed, Found, In, Chains};
-ghost use Rattle.roots.specs.Inner.Plans.{lent, all_seen, out_row, Room};
+ghost use Rattle.code.specs.Inner.Columns.{wanted, Found, In};
+ghost use Rattle.liveness.specs.Inner.Scratch.{cell, Outside, Fixed};
+ghost use Rattle.liveness.specs.Inner.Chains.{Chains};
+ghost use Rattle.code.specs.Inner.Plans.{lent, all_seen};
+ghost use Rattle.liveness.specs.Inner.Plans.{out_row, Room};
 ghost use Rattle.root_map.specs.Inner.Plans.{StandingAt, PointedAt, CountedAt, FitsAt, WrittenAt};
 
+use code::check::{check_function, rows_fit};
+use code::{Code, Flow, Plan, Tracked};
+use liveness::chains::{BlockChains, NO_BLOCK};
+use liveness::fixpoint::{analyse, back_at, gather};
 use refusal::{Refusal, Reply};
-use roots::chains::{BlockChains, NO_BLOCK};
-use roots::check::{check_function, rows_fit};
-use roots::fixpoint::{analyse, back_at, gather};
-use roots::{Code, Flow, Plan, Tracked};
 
 // How many safepoints, and registers live at them, there are.
 #[derive(Clone, Copy)]
@@ -52,7 +55,7 @@ fn block_of(walk: &Walk, b: usize, pc: usize) -> usize
 
 // The row after the blocks' becomes the registers that are live before instruction pc of block b. Where q is before the block's end, the row is that before
 // q, and the walk goes on from there.
-// Kept: the scratch goes beside the plan, as in roots' fixpoint.rt.
+// Kept: the scratch goes beside the plan, as in liveness's fixpoint.rt.
 fn block_row(s: &mut [u64], plan: &Plan, b: usize, q: usize, pc: usize)
     requires nb_value { Room plan.now.flow s.old × (b < plan.now.flow.blocks.count) × In plan.now.flow.blocks.bounds.now b pc × (pc < q) }
     requires fixed { Fixed (all_seen plan.now) plan.now.flow.blocks.bounds.now s.old plan.now.flow.words plan.now.flow.blocks.count }

@@ -4,11 +4,6 @@ use mathlib.Core.Logic.{◌⊎◌, inl, inr}
 use mathlib.Core.Bool.{Bool, true, false, not, ◌&&◌, true≢false}
 use mathlib.Core.List.{List, []}
 use Prim.Native.Nat.{ℕ, ◌+◌, ◌-◌, ◌*◌, ◌/◌, ◌≤◌, ◌<◌}
-use native.Mathlib.Omega.{arith}
-use native.Mathlib.Nat.{add-mul, mul_assoc, mul_comm}
-use lib.ListN.{length, get_or, take, drop, replicate, length-take, length-drop}
-use lib.Dec.{ltb}
-use borrow.Author.Tests.{lt-ltb, le-ltb, eq-eqb, ne_eqb}
 use Rattle.std.specs.Prelude.{if◌then◌else◌, Option, Some, None, unwrap_or}
 use Rattle.std.specs.Bool.{nat_le, nat_lt}
 use Rattle.std.specs.List.{AllWithin, HoldsAt}
@@ -29,12 +24,19 @@ use Rattle.word.proofs.Bools.{either, and_both, both-and}
 use Rattle.word.proofs.ChunkLaws.{pair-parts}
 use Rattle.flow.proofs.Lists.{passing-same, some_at, at_some}
 use Rattle.flow.proofs.Validity.{held, holder-is, holds_parts, parts-holds, safepoint-held, row_list, map-unique}
-use Rattle.roots.specs.View.{view, formed}
-use Rattle.roots.specs.Calls.{Lent, function, right, need, after, rows_after, registers_at, live_at_answer, LiveAtCall}
-use Rattle.roots.specs.Inner.Columns.{seen, cell, live_at, Fixed, Found}
-use Rattle.roots.proofs.Turns.{inst-view}
-use Rattle.roots.proofs.Steps.{part-cell}
-use Rattle.roots.proofs.Forms.{formed-columns, formed-disjoint, blocks-count, block-at}
+use Rattle.roots.specs.Calls.{after, rows_after, registers_at, live_at_answer, LiveAtCall}
+use Rattle.code.specs.View.{view, formed}
+use Rattle.code.specs.Lent.{Lent, function, right, need}
+use Rattle.code.specs.Inner.Columns.{seen, Found}
+use Rattle.liveness.specs.Inner.Scratch.{cell, live_at, Fixed}
+use Rattle.code.proofs.Views.{inst-view}
+use Rattle.liveness.proofs.Steps.{part-cell}
+use Rattle.code.proofs.Forms.{formed-columns, formed-disjoint, blocks-count, block-at}
+use native.Mathlib.Omega.{arith}
+use native.Mathlib.Nat.{add-mul, mul_assoc, mul_comm}
+use lib.ListN.{length, get_or, take, drop, replicate, length-take, length-drop}
+use lib.Dec.{ltb}
+use borrow.Author.Tests.{lt-ltb, le-ltb, eq-eqb, ne_eqb}
 
 pub need-is : (nb W : ℕ) → (3 * nb + 2) * W ≡ nb * (3 * W) + 2 * W
 need-is nb W = add-mul (3 * nb) 2 W ∙ ap (λ (u : ℕ). u + 2 * W) (ap (λ (u : ℕ). u * W) (mul_comm 3 nb) ∙ mul_assoc nb 3 W)

@@ -9,19 +9,15 @@ use lib.ListN.{length, get_or}
 use Rattle.flow.specs.Function.{safepoint}
 use Rattle.flow.specs.Dataflow.{holder}
 use Rattle.refusal.specs.declared.Answer.{Answer}
-use Rattle.roots.specs.Calls.{Lent, need, function, LiveAtCall}
-use Rattle.roots.specs.Inner.Columns.{wanted, Found, In}
-use Rattle.roots.specs.Inner.Plans.{lent, planned, all_seen, Room}
-use Rattle.roots.specs.declared.Code.{Code}
-use Rattle.roots.specs.declared.Tracked.{Tracked}
-use Rattle.roots.specs.declared.Plan.{Plan}
-use Rattle.roots.proofs.Checks.{formed-fit}
+use Rattle.code.specs.Lent.{Lent, need, function}
+use Rattle.roots.specs.Calls.{LiveAtCall}
+use Rattle.code.specs.Inner.Columns.{wanted, Found, In}
+use Rattle.code.specs.Inner.Plans.{planned, all_seen}
+use Rattle.liveness.specs.Inner.Plans.{Room}
+use Rattle.code.specs.declared.Tracked.{Tracked}
+use Rattle.code.specs.declared.Plan.{Plan}
+use Rattle.code.proofs.Checks.{formed-fit}
 use Rattle.roots.proofs.Answers.{need-is, found-held, found-holder, seen-holder, in_code, is-safepoint, not-safepoint, not-held}
-
--- the test of the scratch's length
-pub needs : (code : Code) (n words len : ℕ) (r : Bool) → n ≡ length code.blocks.now / 2 → words ≡ (length code.classes.now + 63) / 64 → (r ≡ true) ↔ ((3 * n + 2) * words ≤ len) → (r ≡ true) ↔ (need (lent code) ≤ len)
-needs code n words len r a b e =
-    subst (λ (w : ℕ). (r ≡ true) ↔ ((3 * (length code.blocks.now / 2) + 2) * w ≤ len)) b (subst (λ (k : ℕ). (r ≡ true) ↔ ((3 * k + 2) * words ≤ len)) a e)
 
 -- what is needed for the function of a plan, where the test came out true
 pub asked-room : (p : Plan) (l : Lent) → planned p ≡ l → (len : ℕ) (r : Bool) → (r ≡ true) ↔ (need l ≤ len) → r ≡ true → need (planned p) ≤ len

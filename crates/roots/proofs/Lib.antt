@@ -1,14 +1,3 @@
 -- Laws that belong to no one function.
-pub mod Turns
-pub mod Scratch
-pub mod Chaining
-pub mod Growth
-pub mod Steps
-pub mod Passes
-pub mod Builds
-pub mod Forms
-pub mod Checks
-pub mod Plans
-pub mod Marks
 pub mod Answers
 pub mod Asking

@@ -1,32 +1,13 @@
 -- What `live_at` answers, and what it leaves (01, "Live map" and "What the host is told"): the refusals in their order, 18, 15, 16, 7. That the registers
 -- listed are exactly those that some walk reads before writing is the law `registers-live` in proofs/Answers.antt.
-use Rattle.std.specs.Prelude.{◌≡◌, Bool, not, List, ℕ, ◌+◌, ◌*◌, ◌/◌, ltb, length, replicate, if◌then◌else◌}
+use Rattle.std.specs.Prelude.{◌≡◌, Bool, not, List, ℕ, ltb, length, replicate, if◌then◌else◌}
 use Rattle.word.specs.Result.{Result, ok, refused}
 use Rattle.word.specs.Put.{put}
 use Rattle.refusal.specs.Told.{answered, here, nothing}
 use Rattle.refusal.specs.declared.Answer.{Answer}
-use Rattle.flow.specs.Function.{Function, safepoint}
+use Rattle.flow.specs.Function.{safepoint}
 use Rattle.flow.specs.Dataflow.{live_row, track}
-use Rattle.roots.specs.View.{view, formed}
-
--- a function as it is lent
-pub record Lent : Type 0 where
-  pub kinds : List ℕ
-  pub ends : List ℕ
-  pub refs : List ℕ
-  pub blocks : List ℕ
-  pub classes : List ℕ
-
-abbrev pub function : Lent → Function
-function l = view l.kinds l.ends l.refs l.blocks l.classes
-
--- number 15 otherwise
-abbrev pub right : Lent → Bool
-right l = formed l.kinds l.ends l.refs l.blocks l.classes
-
--- words of scratch: (3 × blocks + 2) rows of 64 registers a word (number 18 otherwise)
-abbrev pub need : Lent → ℕ
-need l = (3 * (length l.blocks / 2) + 2) * ((length l.classes + 63) / 64)
+use Rattle.code.specs.Lent.{Lent, function, right, need}
 
 -- what was asked for where the answer is no refusal, else what was there
 abbrev pub after : {A : Type 0} → Result A → (old new : List ℕ) → List ℕ

@@ -1,4 +1,2 @@
--- The lent columns read as a function (View), what the calls answer (Calls), what the inner functions ensure (Columns), and what is said of a plan (Plans).
-pub mod View
+-- What the call answers.
 pub mod Calls
-pub mod Inner

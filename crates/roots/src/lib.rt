@@ -1,123 +1,100 @@
-// The live map: which registers are live at a function's safepoints. Inner functions: the front door tests what they require.
+// The registers that are live before one safepoint. Inner functions: the front door tests what they require.
 #![tactic(auto)]
 
-ghost use Rattle.std.specs.Prelude.{◌≡◌, true, ◌+◌, ◌*◌, ◌/◌, ◌≤◌, length};
-ghost use Rattle.roots.specs.View.{formed};
-ghost use Rattle.roots.specs.Inner.Columns.{Lists, Columns};
+ghost use Rattle.std.specs.Prelude.{◌≡◌, ℕ, ◌+◌, ◌-◌, ◌*◌, ◌≤◌, ◌<◌, length, get_or, take, drop, replicate, is_some, unwrap_or, IfSome};
+ghost use Rattle.rows.specs.Inner.Listing.{listing, listed_into};
+ghost use Rattle.flow.specs.Function.{safepoint};
+ghost use Rattle.flow.specs.Dataflow.{live_before};
+ghost use Rattle.refusal.specs.Told.{told, answered, here, nothing};
+ghost use Rattle.code.specs.Lent.{function};
+ghost use Rattle.code.specs.Inner.Columns.{wanted, Found};
+ghost use Rattle.code.specs.Inner.Plans.{lent, planned, all_seen};
+ghost use Rattle.liveness.specs.Inner.Scratch.{cell};
+ghost use Rattle.liveness.specs.Inner.Plans.{out_row, Room};
+ghost use Rattle.roots.specs.Calls.{LiveAtCall};
 
-pub mod at;
-pub mod chains;
-pub mod check;
-pub mod fixpoint;
-pub mod row;
+use code::check::{check_function, rows_fit};
+use code::{Blocks, Code, Flow, Plan, Tracked};
+use liveness::fixpoint::{analyse, back_at, gather};
+use refusal::{Refusal, Reply};
 
-// Which registers are asked for, by their class.
-#[derive(Clone, Copy)]
-pub enum Tracked {
-    // Classes 2 and 4.
-    References,
-    // Class 4.
-    Handles,
-    All,
+// The block that holds instruction pc.
+pub fn find_block(blocks: &Blocks, pc: usize) -> Option<usize>
+    ensures found { Found blocks.now.bounds.now blocks.now.count pc (unwrap_or result blocks.now.count) }
+    ensures inside { IfSome result (λ b. b < blocks.now.count) }
+{
+    let (rows, _) = blocks.bounds.as_chunks::<2>();
+    rows[..blocks.count]
+        .iter()
+        .position(|&[start, end]| start as usize <= pc && pc < end as usize)
 }
 
-// A function as it is lent: specs/View.antt says how the columns are read.
-#[derive(Clone, Copy)]
-pub struct Code<'a> {
-    pub kinds: &'a [u8],
-    pub ends: &'a [u32],
-    pub refs: &'a [u32],
-    pub blocks: &'a [u32],
-    pub classes: &'a [u8],
-}
-
-impl Code<'_> {
-    pub fn block_count(&self) -> usize
-        ensures { result ≡ length self.now.blocks.now / 2 }
-    {
-        self.blocks.len() / 2
-    }
-
-    // The words of a row that has a bit for each register.
-    pub fn words(&self) -> usize
-        ensures { result ≡ (length self.now.classes.now + 63) / 64 }
-    {
-        self.classes.len().div_ceil(64)
+// The block that holds the safepoint pc. None: pc is no safepoint inside a block.
+pub fn safepoint_block(plan: &Plan, pc: usize) -> Option<usize>
+    ensures safepoint { is_some result ≡ safepoint (function (planned plan.now)) pc }
+    ensures inside { IfSome result (λ b. b < plan.now.flow.blocks.count) }
+    ensures holds { IfSome result (λ b. (get_or plan.now.flow.blocks.bounds.now (2 * b) 0 ≤ pc) × (pc < get_or plan.now.flow.blocks.bounds.now (2 * b + 1) 0)) }
+{
+    let b = find_block(&plan.flow.blocks, pc)?;
+    if plan.flow.kinds[pc] == 1 {
+        Some(b)
+    } else {
+        None
     }
 }
 
-// The registers that instructions write and read, each in a list of `refs` that `ends` bounds, and which of them are asked for.
-#[derive(Clone, Copy)]
-pub struct Registers<'a> {
-    pub ends: &'a [u32],
-    pub refs: &'a [u32],
-    pub classes: &'a [u8],
-    pub which: Tracked,
-    pub ghost lists: { Lists ends.now refs.now },
+// The row after the blocks' becomes the registers that are live before instruction pc of block b.
+// Kept: the scratch goes beside the plan, as in liveness's fixpoint.rt.
+pub fn live_row(s: &mut [u64], plan: &Plan, b: usize, pc: usize)
+    requires nb_value { (b < plan.now.flow.blocks.count) × Room plan.now.flow s.old }
+    requires b_bound { (get_or plan.now.flow.blocks.bounds.now (2 * b) 0 ≤ pc) × (pc < get_or plan.now.flow.blocks.bounds.now (2 * b + 1) 0) }
+    ensures { (length s.new ≡ length s.old) × ((q : ℕ) → q < 64 * plan.now.flow.words → cell s.new (out_row plan.now.flow) q ≡ live_before (all_seen plan.now) b pc q) }
+{
+    let Flow {
+        registers,
+        blocks,
+        words,
+        ..
+    } = plan.flow;
+    analyse(s, plan);
+    gather(s, &plan.flow, b);
+    let e = blocks.bounds[2 * b + 1] as usize;
+    back_at(s, &registers, blocks.count * (3 * words), words, pc, e);
 }
 
-// So many blocks, each of two words: where it starts and where it ends.
-#[derive(Clone, Copy)]
-pub struct Blocks<'a> {
-    pub bounds: &'a [u32],
-    pub count: usize,
-    pub ghost within: { count * 2 ≤ length bounds.now },
-}
-
-// What the dataflow goes over, all blocks of a function, and the shape of its scratch: rows of so many words for each block.
-#[derive(Clone, Copy)]
-pub struct Flow<'a> {
-    pub kinds: &'a [u8],
-    pub registers: Registers<'a>,
-    pub blocks: Blocks<'a>,
-    pub words: usize,
-    pub ghost columns: { Columns kinds.now registers.ends.now registers.refs.now blocks.bounds.now },
-    pub ghost counted: { blocks.count ≡ length blocks.bounds.now / 2 },
-}
-
-// The same of a function that passed its test, with rows that have a bit for each register.
-#[derive(Clone, Copy)]
-pub struct Plan<'a> {
-    pub flow: Flow<'a>,
-    pub ghost passed: { formed flow.kinds.now flow.registers.ends.now flow.registers.refs.now flow.blocks.bounds.now flow.registers.classes.now ≡ true },
-    pub ghost covered: { length flow.registers.classes.now ≤ 64 * flow.words },
-}
-
-impl<'a> Plan<'a> {
-    ghost use Rattle.roots.specs.Inner.Plans.{lent, planned};
-
-    // Each row has as few words as hold its bits.
-    pub fn new(code: Code<'a>, which: Tracked) -> Plan<'a>
-        requires { formed code.kinds.now code.ends.now code.refs.now code.blocks.now code.classes.now ≡ true }
-        ensures code { planned result ≡ lent code.entry }
-        ensures which { result.flow.registers.which ≡ which }
-        ensures words { result.flow.words ≡ (length result.flow.registers.classes.now + 63) / 64 }
-    {
-        let count = code.block_count();
-        let words = code.words();
-        let Code {
-            kinds,
-            ends,
-            refs,
-            blocks,
-            classes,
-        } = code;
-        let registers = Registers {
-            ends,
-            refs,
-            classes,
-            which,
-        };
-        let blocks = Blocks {
-            bounds: blocks,
-            count,
-        };
-        let flow = Flow {
-            kinds,
-            registers,
-            blocks,
-            words,
-        };
-        Plan { flow }
+// The registers of the row at `at` are listed, if they fit, and the scratch becomes zero.
+fn list_at(s: &mut [u64], at: usize, words: usize, regs: &mut [u32]) -> Reply
+    requires { (at + words ≤ length s.old) × (words ≤ 256) }
+    ensures { (told result ≡ answered here nothing (listing 64 (take ((at + words) - at) (drop at s.old)) (length regs.old)))
+        × (regs.new ≡ listed_into 64 (take ((at + words) - at) (drop at s.old)) regs.old)
+        × (s.new ≡ replicate (length s.old) 0) }
+{
+    let past = at + words;
+    let answer = rows::list(&s[at..past], regs);
+    s.fill(0);
+    match answer {
+        Some(n) => Ok((n as u64, 0)),
+        None => Err(Refusal::ShortList),
     }
+}
+
+// The registers that are live before the safepoint pc, rising.
+pub fn live_at(code: Code, which: Tracked, pc: usize, regs: &mut [u32], rows: &mut [u64]) -> Reply
+    ensures { LiveAtCall (lent code.entry) (wanted which) pc regs.old rows.old regs.new rows.new (told result) }
+{
+    if !rows_fit(&code, rows.len()) {
+        return Err(Refusal::Scratch);
+    }
+    if !check_function(&code) {
+        rows.fill(0);
+        return Err(Refusal::Function);
+    }
+    let plan = Plan::new(code, which);
+    let Some(b) = safepoint_block(&plan, pc) else {
+        rows.fill(0);
+        return Err(Refusal::NoMap);
+    };
+    live_row(rows, &plan, b, pc);
+    let Flow { blocks, words, .. } = plan.flow;
+    list_at(rows, blocks.count * (3 * words), words, regs)
 }

@@ -61,10 +61,10 @@ module _ (room m w : List ℕ) (l : Lent) (t : List ℕ) where
             record { found = passes _ _ _ all_there (passes _ _ _ (sym p ∙ q) f); left = a ∙ sym (not-scratch (well_formed l) e (room ∷ m ∷ w ∷ []) f) }
 
   module _ {room' m' w' : List ℕ} {e : Entry} (s : Entered (room ∷ m ∷ w ∷ []) (run_tests room m w l t) e (room' ∷ m' ∷ w' ∷ [])) (i : e ≡ ready) where
-    pub run-ready : length room' ≡ length room → CanRun l room'
+    pub run-ready : length room' ≡ length room → CanRun l t room'
     run-ready k =
         let b : pool_size l ≤ length room = leb-true (pool_size l) (length room) (and_both (enough m w l) (leb (pool_size l) (length room)) (holding s 0 i)).1 in
-        record { formed = holding s 2 i; room = omega (arith, b, k) }
+        record { formed = holding s 2 i; room = λ n c d. omega (arith, b, k, c) }
 
     pub run-done : {l' : Lent} {reply : Reply} {answer : Answer} {room'' : List ℕ} → Tells nothing nothing l l' reply (run_script (slot_count l) (pool_size l) t (view l)) → answer ≡ told reply
         → room'' ≡ replicate (length room) 0 → outcome_of answer l' (room'' ∷ m' ∷ w' ∷ []) ≡ run_call room m w l t

@@ -2,7 +2,7 @@
 use mathlib.Core.Path.{◌≡◌, refl, ap}
 use mathlib.Core.List.{List}
 use lib.ListN.{length}
-use Prim.Native.Nat.{ℕ, ◌≤◌}
+use Prim.Native.Nat.{ℕ}
 use Rattle.word.specs.Result.{Result, ok, refused}
 use Rattle.refusal.specs.Told.{number_of, told, answered, nothing, Reply}
 use Rattle.refusal.specs.declared.Answer.{Answer}
@@ -15,12 +15,13 @@ use Rattle.heap.specs.Inner.Tells.{Does, Tells}
 use Rattle.script.specs.Script.{silent}
 use Rattle.script.proofs.Refusing.{Numbered}
 use Rattle.run_door.specs.Inner.Steps.{end_of}
+use Rattle.run_door.specs.Run.{Roomy}
 use native.Mathlib.Omega.{arith}
 
--- a heap that is well formed, with room for the data of any object
-pub record CanRun (l : Lent) (lent-room : List ℕ) : Type 0 where
+-- a heap that is well formed, with room for the data of any line
+pub record CanRun (l : Lent) (s lent-room : List ℕ) : Type 0 where
   pub formed : well_formed l ≡ true
-  pub room : pool_size l ≤ length lent-room
+  pub room : Roomy (pool_size l) (length s) (length lent-room)
 
 abbrev number_in : Answer → ℕ
 number_in a = a.number

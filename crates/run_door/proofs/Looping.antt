@@ -3,11 +3,8 @@ use mathlib.Core.Path.{◌≡◌, refl, sym, ap, ◌∙◌, subst}
 use mathlib.Core.Bool.{true}
 use mathlib.Core.List.{List}
 use Prim.Native.Nat.{ℕ, ◌≤◌}
-use native.Mathlib.Omega.{arith}
-use lib.ListN.{length, drop, drop_of_length-le}
 use Rattle.word.specs.Result.{Result, ok}
-use Rattle.refusal.specs.Told.{nothing}
-use Rattle.refusal.specs.Told.{Reply}
+use Rattle.refusal.specs.Told.{nothing, Reply}
 use Rattle.std.specs.Prelude.{Ok, Err, is_err, IsOk}
 use Rattle.heap.specs.State.{State}
 use Rattle.heap.specs.Lent.{Lent, view, stored, slot_count, pool_size}
@@ -23,6 +20,9 @@ use Rattle.script.proofs.Scripts.{run-nothing}
 use Rattle.run_door.specs.Inner.Steps.{end_of}
 use Rattle.run_door.proofs.Moving.{Stepping}
 use Rattle.run_door.proofs.Answering.{CanRun, is-done, tells-why}
+use Rattle.run_door.specs.Run.{Roomy}
+use native.Mathlib.Omega.{arith}
+use lib.ListN.{length, drop, drop_of_length-le}
 
 pub then-same : {a b c : ViewMut} → SameLoans a b → SameLoans b c → SameLoans a c
 then-same p q = record { narrow = q.narrow ∙ p.narrow; wide = q.wide ∙ p.wide; pool = q.pool ∙ p.pool }
@@ -31,11 +31,11 @@ pub record Running (l₀ l : Lent) (room₁ s : List ℕ) (at : ℕ) : Type 0 wh
   pub formed : well_formed l ≡ true
   pub slots : slot_count l ≡ slot_count l₀
   pub pool : pool_size l ≡ pool_size l₀
-  pub room : pool_size l ≤ length room₁
+  pub room : Roomy (pool_size l) (length s) (length room₁)
   pub inside : at ≤ length s
   pub left : run_script (slot_count l₀) (pool_size l₀) (drop at s) (view l) ≡ run_script (slot_count l₀) (pool_size l₀) s (view l₀)
 
-pub run-first : (l : Lent) (room s : List ℕ) → CanRun l room → Running l l room s 0
+pub run-first : (l : Lent) (room s : List ℕ) → CanRun l s room → Running l l room s 0
 run-first l room s can = record { formed = can.formed; slots = refl; pool = refl; room = can.room; inside = omega arith; left = refl }
 
 abbrev with : Result Unit → State → Changed Unit
@@ -55,7 +55,7 @@ left_there l₀ l a call f s p e =
     }
 
 module _ (l₀ l : Lent) (room s : List ℕ) (at : ℕ) (now : Running l₀ l room s at) where
-  pub run-can : CanRun l room
+  pub run-can : CanRun l s room
   run-can = record { formed = now.formed; room = now.room }
 
   pub run_end : length s ≤ at → Tells nothing nothing l₀ l (Ok (0, 0)) (run_script (slot_count l₀) (pool_size l₀) s (view l₀))
@@ -78,7 +78,7 @@ module _ (l₀ l : Lent) (room s : List ℕ) (at : ℕ) (now : Running l₀ l ro
             formed = went.formed;
             slots = S ∙ now.slots;
             pool = P ∙ now.pool;
-            room = omega (arith, now.room, P, z);
+            room = λ n a b. let k : n ≤ length room = now.room n (omega (arith, a, P)) b in omega (arith, k, z);
             inside = went.inside;
             left = sym (ap (λ (a : Result Unit). and_then (with a (view l')) (run_script (slot_count l₀) (pool_size l₀) (drop next s))) (is-done reply o)) ∙ sym went_on ∙ now.left;
           }

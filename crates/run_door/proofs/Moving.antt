@@ -35,7 +35,7 @@ use Rattle.script.specs.declared.Line.TheVariants.{Alloc, Take, Seal, Recycle}
 use Rattle.script.proofs.Scripts.{call-shorter, run_call, run-bad}
 use Rattle.script.proofs.Refusing.{free-numbered}
 use Rattle.run_door.specs.Inner.Steps.{end_of, LineEnds}
-use Rattle.run_door.proofs.Answering.{CanRun, ends_as, silent-unit}
+use Rattle.run_door.proofs.Answering.{ends_as, silent-unit}
 use Rattle.word.specs.Lists.{rising_from, rising}
 use Rattle.heap.proofs.LiveSlots.{resolved_live}
 use native.Mathlib.Omega.{arith}
@@ -137,9 +137,9 @@ module _ (l : Lent) (s : List ℕ) (at : ℕ) (k : at < length s) (l' : Lent) (r
   stepped {line} {next} h d = by_call (call_in s line) next h.call h.inside d
 
 -- a line that is no call's
-pub bad-step : (l : Lent) (room s : List ℕ) (at : ℕ) → at < length s → CanRun l room → (o : found.Option (Line × ℕ)) → LineRead (read_call (drop at s)) s o → o ≡ found.None → Stepping l l s at (Err Page) (length s)
-bad-step l room s at k can o h e =
+pub bad-step : (l : Lent) (s : List ℕ) (at : ℕ) → at < length s → well_formed l ≡ true → (o : found.Option (Line × ℕ)) → LineRead (read_call (drop at s)) s o → o ≡ found.None → Stepping l l s at (Err Page) (length s)
+bad-step l s at k formed o h e =
     let lost : read_call (drop at s) ≡ none = subst (λ (x : found.Option (Line × ℕ)). LineRead (read_call (drop at s)) s x) e h in
     let b : run_script (slot_count l) (pool_size l) (drop at s) (view l) ≡ refuse 17 (view l) =
     rw (drop-cons-one s at k) (run-bad (slot_count l) (pool_size l) (get_or s at 0) (drop (at + 1) s) (view l) (ap read_call (sym (drop-cons-one s at k)) ∙ lost)) in
-    by_end l s at k l (Err Page) (refuse 17 (view l)) (length s) b k (omega arith) (record { lies = (formed-tested l can.formed).lies; formed = can.formed }) refl
+    by_end l s at k l (Err Page) (refuse 17 (view l)) (length s) b k (omega arith) (record { lies = (formed-tested l formed).lies; formed = formed }) refl

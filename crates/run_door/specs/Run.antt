@@ -1,11 +1,15 @@
 -- The public call that runs a script (01, "Page" and "What the host is told").
-use Rattle.std.specs.Prelude.{◌&&◌, List, [], ◌∷◌, ℕ, leb, length}
+use Rattle.std.specs.Prelude.{◌&&◌, ◌≤◌, ◌*◌, List, [], ◌∷◌, ℕ, leb, length}
 use Rattle.refusal.specs.Told.{nothing}
 use Rattle.refusal.specs.declared.Refusal.TheVariants.{BrokenHeap, Page, Scratch}
 use Rattle.heap.specs.Lent.{Lent, slot_count, pool_size}
 use Rattle.heap.specs.WellFormed.{well_formed}
 use Rattle.door.specs.HeapCalls.{Test, test, enough, Outcome, calling}
 use Rattle.script.specs.Script.{begins_call, run_script}
+
+-- room for the data of any line: it is not decoded where it is longer than the pool, and the text spells each byte by two digits
+abbrev pub Roomy : (pool text room : ℕ) → Type 0
+Roomy pool text room = (n : ℕ) → n ≤ pool → 2 * n ≤ text → n ≤ room
 
 -- A run is its lines one after the other, each refused in 01's order, and the heap is checked once. So before the first line is run: scratch (18), which has besides
 -- a byte for each byte of the pool; a first line that is no call's (17); the heap (1). A script of no lines is refused by 18 and 1 alone.

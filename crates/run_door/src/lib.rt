@@ -2,7 +2,7 @@
 // until one is refused or bad.
 #![tactic(auto)]
 
-ghost use Rattle.std.specs.Prelude.{[], ◌∷◌, ◌≡◌, ◌≤◌, ◌/◌, length};
+ghost use Rattle.std.specs.Prelude.{[], ◌∷◌, ◌≡◌, ◌/◌, length};
 ghost use Rattle.std.proofs.Math.Option.{some};
 ghost use Rattle.heap.specs.Lent.{lent};
 ghost use Rattle.heap.specs.Inner.Loans.{state, Becomes, Replies};
@@ -12,7 +12,7 @@ ghost use Rattle.door.specs.HeapCalls.{outcome_of};
 ghost use Rattle.door.specs.Inner.Entered.{Entered};
 ghost use Rattle.script.specs.Script.{run_script};
 ghost use Rattle.script.specs.Inner.Found.{DataThere, call_at, DataIn, call_in};
-ghost use Rattle.run_door.specs.Run.{run_tests, run_call};
+ghost use Rattle.run_door.specs.Run.{Roomy, run_tests, run_call};
 ghost use Rattle.run_door.specs.Inner.Steps.{Ends};
 
 use door::{Done, enter};
@@ -27,7 +27,7 @@ use script::{AllocLine, Line, begins_call, read_line};
 // The call of an `alloc` line: 8, then 6, then 5. Data longer than the pool is not decoded, so that the room is enough.
 // Kept: the room is lent beside the heap; a struct of both would be taken apart for each line that needs the heap alone, as all but this one do.
 fn do_alloc(lent: &mut ViewMut, s: &[u8], a: AllocLine, room: &mut [u8]) -> Reply
-    requires can_run { length lent.old.pool.now ≤ length room.old }
+    requires roomy { Roomy (length lent.old.pool.now) (length s.now) (length room.old) }
     requires data_there { DataThere s.now a }
     ensures { Ends lent.old lent.new result (some (call_at s.now a)) }
 {
@@ -70,7 +70,7 @@ fn recycle(lent: &mut ViewMut)
 // The call of a line that was read.
 // Kept: each line is another call with arguments of its own, so a closure would say no more than its arm.
 fn do_line(lent: &mut ViewMut, s: &[u8], line: Line, room: &mut [u8]) -> Reply
-    requires can_run { length lent.old.pool.now ≤ length room.old }
+    requires roomy { Roomy (length lent.old.pool.now) (length s.now) (length room.old) }
     requires data_in { DataIn s.now line }
     ensures { Ends lent.old lent.new result (some (call_in s.now line)) }
 {
@@ -89,8 +89,8 @@ fn do_line(lent: &mut ViewMut, s: &[u8], line: Line, room: &mut [u8]) -> Reply
 }
 
 // Runs the lines of `s` one by one, until one is refused or bad.
-fn run_lines(lent: &mut ViewMut, s: &[u8], room: &mut [u8]) -> Reply
-    requires { length lent.old.pool.now ≤ length room.old }
+pub fn run_lines(lent: &mut ViewMut, s: &[u8], room: &mut [u8]) -> Reply
+    requires { Roomy (length lent.old.pool.now) (length s.now) (length room.old) }
     ensures { Replies nothing nothing lent.old lent.new result
         (run_script (length lent.old.narrow.now / 6) (length lent.old.pool.now) s.now (state lent.old)) }
 {

@@ -1,13 +1,9 @@
 -- The ways out of `same` and `order`. Assumes nothing.
 use mathlib.Core.Path.{◌≡◌, refl, sym, ap, ◌∙◌}
 use mathlib.Core.Bool.{Bool, true, false}
-use mathlib.Core.List.{List, [], ◌∷◌}
+use mathlib.Core.List.{List, [], ◌∷◌, map}
 use Prim.Native.Nat.{ℕ}
-use lib.ListN.{length, replicate, get_or}
-use lib.Dec.{leb}
-use Rattle.std.specs.Prelude.{Option, Ok, Err}
-use Rattle.std.specs.Prelude.{Result as Told}
-use Rattle.std.specs.Option.{ok_or}
+use Rattle.std.specs.Prelude.{Ok, Err, Result as Told}
 use Rattle.std.specs.Result.{MatchResult, IsOkAnd}
 use Rattle.std.specs.declared.cmp.Ordering.{Ordering}
 use Rattle.word.specs.Result.{Result, ok, refused}
@@ -15,23 +11,23 @@ use Rattle.word.proofs.Bools.{and_both}
 use Rattle.refusal.specs.Told.{Reply, told, answered, nothing}
 use Rattle.refusal.specs.declared.Answer.{Answer}
 use Rattle.refusal.specs.declared.Refusal.{Refusal}
-use Rattle.refusal.specs.declared.Refusal.TheVariants.{TypeTable, Untraceable as CannotTrace}
+use Rattle.refusal.specs.declared.Refusal.TheVariants.{TypeTable}
 use Rattle.ty.specs.Types.{Table}
 use Rattle.ty.specs.Check.{table_good}
 use Rattle.heap.specs.State.{State}
 use Rattle.heap.specs.Lent.{Lent, view, slot_count}
-use Rattle.door.specs.HeapCalls.{test, enough, zeros, asked_of}
+use Rattle.door.specs.HeapCalls.{test, enough, zeros, asked_of, Entry, ready}
 use Rattle.door.specs.Inner.Entered.{Entered}
-use Rattle.door.specs.HeapCalls.{Entry}
-use Rattle.door.specs.HeapCalls.{ready}
 use Rattle.door.proofs.Entering.{and-holds, and-fails, and-more, holding, cleared-in, ask-refused, ask-ready, zeros-again, zeros-room}
-use Rattle.compare_heaps.specs.Inner.Compared.{compared_by, CanMark}
+use Rattle.compare_heaps.specs.Inner.Compared.{CanMark}
 use Rattle.saves.specs.Saves.{Words, table_in, Save, save_of, words_of, save_tests, scratch_of, ordering, same_number, order_number, comparing, same_call, order_call}
 use Rattle.saves.specs.Right.{RightSame, RightOrder}
 use Rattle.saves.proofs.Turning.{ordered, by_ordering}
 use Rattle.saves.proofs.Theorem.{rightly-same, rightly-ordered}
 use Rattle.same_door.specs.Inner.Both.{both_tests}
-use Rattle.same_door.specs.Inner.Numbers.{reply_by, Compares}
+use Rattle.same_door.specs.Inner.Numbers.{found_by, reply_by, Compares}
+use lib.ListN.{length, replicate, get_or}
+use lib.Dec.{leb}
 
 -- ---- the type table after the heaps
 
@@ -52,17 +48,18 @@ module _ (l k : Lent) {m w om ow m' w' om' ow' : List ℕ} {e : Entry} (s : Ente
 -- ---- the number that is told
 
 module _ (T : Table) (g h : State) (rs ss : List ℕ) (number : Ordering → ℕ) where
-  found-told : told (reply_by number (ok_or (compared_by (ordering T g h rs ss)) CannotTrace)) ≡ answered number nothing (ordering T g h rs ss)
+  found-told : told (reply_by number (found_by (ordering T g h rs ss))) ≡ answered number nothing (ordering T g h rs ss)
   found-told = by_ordering T g h rs ss (λ u q. at (refused 13) q refl) (λ a b q. at (ok (ordered T g h rs ss)) q refl)
     where
-      at : (o : Result Ordering) → ordering T g h rs ss ≡ o → told (reply_by number (ok_or (compared_by o) CannotTrace)) ≡ answered number nothing o
-          → told (reply_by number (ok_or (compared_by (ordering T g h rs ss)) CannotTrace)) ≡ answered number nothing (ordering T g h rs ss)
-      at o q r = ap (λ (x : Result Ordering). told (reply_by number (ok_or (compared_by x) CannotTrace))) q ∙ r ∙ sym (ap (answered number nothing) q)
+      at : (o : Result Ordering) → ordering T g h rs ss ≡ o → told (reply_by number (found_by o)) ≡ answered number nothing o
+          → told (reply_by number (found_by (ordering T g h rs ss))) ≡ answered number nothing (ordering T g h rs ss)
+      at o q r = ap (λ (x : Result Ordering). told (reply_by number (found_by x))) q ∙ r ∙ sym (ap (answered number nothing) q)
 
 -- ---- the calls
 
-zeros-on : (m m' m'' m''' : List ℕ) → m' ≡ zeros m → length m'' ≡ length m' → m''' ≡ zeros m'' → m''' ≡ m'
-zeros-on m m' m'' m''' a b c = c ∙ ap (λ (k : ℕ). replicate k 0) b ∙ sym (zeros-again m m' a)
+-- what is made zero, after a call that leaves its length
+pub zeros-of : (m m' : List ℕ) {m'' : List ℕ} → m'' ≡ zeros m' → length m' ≡ length m → m'' ≡ zeros m
+zeros-of m m' e k = e ∙ ap (λ (n : ℕ). replicate n 0) k
 
 module _ (w : Words) (s t : Save) {e : Entry} {m' w' om' ow' : List ℕ} (x : Entered (scratch_of s t) (save_tests w s t) e (m' ∷ w' ∷ om' ∷ ow' ∷ [])) where
   abbrev question : State → Result Ordering
@@ -96,19 +93,17 @@ module _ (w : Words) (s t : Save) {e : Entry} {m' w' om' ow' : List ℕ} (x : En
   pub compares-refused : {why : Refusal} → e ≡ Err why → Compares w s t (Err why) (m' ∷ w' ∷ om' ∷ ow' ∷ [])
   compares-refused i = λ number. ask-refused x number nothing s.heap question i refl
 
-  pub compares-found : e ≡ ready → (f : Option Ordering) → f ≡ compared_by (ordering (table_in w) (view s.heap) (view t.heap) s.roots t.roots)
-      → (a b c d : List ℕ) → length a ≡ length m' → length b ≡ length w' → length c ≡ length om' → length d ≡ length ow'
-      → (a' b' c' d' : List ℕ) → a' ≡ zeros a → b' ≡ zeros b → c' ≡ zeros c → d' ≡ zeros d
-      → (r : Told Ordering Refusal) → r ≡ ok_or f CannotTrace → Compares w s t r (a' ∷ b' ∷ c' ∷ d' ∷ [])
-  compares-found i f ef a b c d la lb lc ld a' b' c' d' za zb zc zd r er =
-      λ number. ap (asked_of (told (reply_by number r))) cleared
+  pub compares-found : e ≡ ready → (r : Told Ordering Refusal) → r ≡ found_by (ordering (table_in w) (view s.heap) (view t.heap) s.roots t.roots)
+      → (a b c d : List ℕ) → a ∷ b ∷ c ∷ d ∷ [] ≡ map zeros (m' ∷ w' ∷ om' ∷ ow' ∷ []) → Compares w s t r (a ∷ b ∷ c ∷ d ∷ [])
+  compares-found i r q a b c d z =
+      λ number. ap (asked_of (told (reply_by number r))) (z ∙ still)
       ∙ ask-ready x number nothing s.heap question i (found-told (table_in w) (view s.heap) (view t.heap) s.roots t.roots number)
-      (ap (λ (y : Told Ordering Refusal). told (reply_by number y)) (er ∙ ap (λ (o : Option Ordering). ok_or o CannotTrace) ef))
+      (ap (λ (y : Told Ordering Refusal). told (reply_by number y)) q)
     where
-      cleared : a' ∷ b' ∷ c' ∷ d' ∷ [] ≡ m' ∷ w' ∷ om' ∷ ow' ∷ []
-      cleared =
-          λ j. zeros-on s.marks m' a a' (part i 0) la za j ∷ zeros-on s.work w' b b' (part i 1) lb zb j
-          ∷ zeros-on t.marks om' c c' (part i 2) lc zc j ∷ zeros-on t.work ow' d d' (part i 3) ld zd j ∷ []
+      still : zeros m' ∷ zeros w' ∷ zeros om' ∷ zeros ow' ∷ [] ≡ m' ∷ w' ∷ om' ∷ ow' ∷ []
+      still =
+          λ j. sym (zeros-again s.marks m' (part i 0)) j ∷ sym (zeros-again s.work w' (part i 1)) j
+          ∷ sym (zeros-again t.marks om' (part i 2)) j ∷ sym (zeros-again t.work ow' (part i 3)) j ∷ []
 
 -- ---- the two calls
 

@@ -2,16 +2,18 @@
 // first, in document 01's order and of both heaps each time: scratch (18), the heap (1); then the type table (10), then whether all that is reached can be traced (13).
 #![tactic(auto)]
 
-ghost use Rattle.std.specs.Prelude.{◌≡◌, [], ◌∷◌, IfOk};
+ghost use Rattle.std.specs.Prelude.{◌≡◌, [], ◌∷◌, IfOk, map};
 ghost use Rattle.heap.specs.Lent.{lent};
-ghost use Rattle.heap.specs.Inner.Seen.{seen};
-ghost use Rattle.door.specs.HeapCalls.{asked_of};
+ghost use Rattle.heap.specs.Inner.Seen.{seen, state};
+ghost use Rattle.door.specs.HeapCalls.{asked_of, zeros};
 ghost use Rattle.door.specs.Inner.Entered.{Entered, entry_of};
-ghost use Rattle.saves.specs.Saves.{save_of, words_of, save_tests, same_number, order_number, same_call, order_call};
+ghost use Rattle.saves.specs.Saves.{save_of, words_of, save_tests, same_number, order_number, same_call, ordering, order_call};
 ghost use Rattle.saves.specs.Right.{RightSame, RightOrder};
-ghost use Rattle.same_door.specs.Inner.Numbers.{Compares};
+ghost use Rattle.same_door.specs.Inner.Numbers.{Compares, found_by};
 ghost use Rattle.same_door.specs.Inner.Both.{both_tests};
 ghost use Rattle.same_door.specs.Inner.Given.{memory_of, words_in, given_save};
+ghost use Rattle.ty.specs.Inner.Lent.{lent as table_in};
+ghost use Rattle.compare_heaps.specs.Inner.Compared.{CanMark};
 
 use compare_heaps::Rooted;
 use given::Given;
@@ -20,6 +22,7 @@ use heap::view::View;
 use refusal::{Answer, Refusal};
 use std::cmp::Ordering;
 use ty::Table;
+use ty_check::check_table;
 
 mod given; // one of the two heaps, as it is lent
 
@@ -75,14 +78,48 @@ fn admit<'a, 'b>(
     ensures shows { IfOk result (λ v. (seen v.0 ≡ memory_of given.entry) × (seen v.1 ≡ memory_of other.entry)) }
 {
     let views = enter_both(given, other, marks, work, other_marks, other_work)?;
-    if !table.check_table() {
+    if !check_table(table) {
         return Err(Refusal::TypeTable);
     }
     Ok(views)
 }
 
 // Kept: the order of two heaps' memory, not of two values, so it is no Ord.
-// The order of two heaps, or why there is none. All scratch is zero afterwards, but as it was where that of either is too short.
+// The order of two heaps, each with roots of its own, or why there is none (13). All scratch is zero afterwards.
+pub fn order_saves(
+    table: &Table,
+    here: Rooted,
+    there: Rooted,
+    marks: &mut [u8],
+    work: &mut [u64],
+    other_marks: &mut [u8],
+    other_work: &mut [u64],
+) -> Result<Ordering, Refusal>
+    requires can_mark { CanMark (seen here.view) marks.old work.old }
+    requires can_mark_2 { CanMark (seen there.view) other_marks.old other_work.old }
+    ensures found { result ≡ found_by (ordering (table_in table.now) (state here.entry.view) (state there.entry.view)
+        here.entry.roots.now there.entry.roots.now) }
+    ensures cleared { marks.new ∷ work.new ∷ other_marks.new ∷ other_work.new ∷ []
+        ≡ map zeros (marks.old ∷ work.old ∷ other_marks.old ∷ other_work.old ∷ []) }
+{
+    let found = compare_heaps::order_heaps(
+        table,
+        here,
+        there,
+        marks,
+        work,
+        other_marks,
+        other_work,
+    );
+    marks.fill(0);
+    work.fill(0);
+    other_marks.fill(0);
+    other_work.fill(0);
+    found.ok_or(Refusal::Untraceable)
+}
+
+// Kept: as for order_saves.
+// The same of two heaps as they are lent. All scratch is zero afterwards, but as it was where that of either is too short.
 fn compare_saves(
     table: &Table,
     given: Given,
@@ -106,25 +143,12 @@ fn compare_saves(
         view: views.1,
         roots: other.roots,
     };
-    let found = compare_heaps::order_heaps(
-        table,
-        here,
-        there,
-        marks,
-        work,
-        other_marks,
-        other_work,
-    );
-    marks.fill(0);
-    work.fill(0);
-    other_marks.fill(0);
-    other_work.fill(0);
-    found.ok_or(Refusal::Untraceable)
+    order_saves(table, here, there, marks, work, other_marks, other_work)
 }
 
 // Kept: one number of an order for each call, so no conversion of Ordering itself.
 // What `same` tells: 1 yes, 0 no. Equal heaps are the same model.
-fn same_values(o: Ordering) -> (u64, u64)
+pub fn same_values(o: Ordering) -> (u64, u64)
     ensures { result ≡ (same_number o, 0) }
 {
     (u64::from(o.is_eq()), 0)
@@ -132,7 +156,7 @@ fn same_values(o: Ordering) -> (u64, u64)
 
 // Kept: as for `same`.
 // What `order` tells: 0 less, 1 equal, 2 greater.
-fn order_values(o: Ordering) -> (u64, u64)
+pub fn order_values(o: Ordering) -> (u64, u64)
     ensures { result ≡ (order_number o, 0) }
 {
     match o {

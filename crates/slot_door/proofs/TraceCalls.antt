@@ -10,9 +10,8 @@ use Rattle.refusal.proofs.Numbers.{told-once}
 use Rattle.std.specs.Prelude.{Ok, Err, if◌then◌else◌, Option as Outcome}
 use Rattle.word.specs.Result.{ok, refused}
 use Rattle.ty.specs.Types.{Table}
-use Rattle.ty.specs.View.{table_of, lent as table_in}
+use Rattle.ty.specs.View.{table_of}
 use Rattle.ty.specs.declared.Table.{Table as Columns}
-use Rattle.ty.proofs.CountLaws.{length_types}
 use Rattle.heap.specs.State.{Slot, no_slot, slot_at}
 use Rattle.heap.specs.Lent.{Lent, slot_in, view}
 use Rattle.heap.specs.Inner.Seen.{seen, state}
@@ -27,6 +26,8 @@ use Rattle.slot_door.specs.Traceable.{traced, fits_table, first_failing, misfit,
 use Rattle.slot_door.specs.Inner.Misfit.{misfit_in}
 use Rattle.slot_door.proofs.SlotCalls.{fit-of}
 use Rattle.door.specs.Inner.Entered.{Entered}
+use Rattle.ty.specs.Inner.Lent.{lent as table_in}
+use Rattle.ty.proofs.Lookup.{length_types}
 use mathlib.Core.Path.{◌≡◌, refl, sym, ap, ◌∙◌}
 use mathlib.Core.Bool.{Bool, true, false}
 use mathlib.Core.List.{List, [], ◌∷◌, map}
@@ -150,6 +151,13 @@ module _ (v : View) (T : Table) where
     pub found_none : v.heap.slots ≤ i → none ≡ misfit T (state v)
     found_none b = sym (misfit-is ∙ passed-all (fits_table T (state v)) v.heap.slots i p b)
 
+-- what is told of it
+pub misfit-none : {o m : Option ℕ} {a : Answer} → o ≡ m → o ≡ none → a ≡ told (Ok (0, 0)) → a ≡ misfit_told m
+misfit-none p q t = t ∙ ap misfit_told (sym q ∙ p)
+
+pub misfit-some : {o m : Option ℕ} {a : Answer} (i : ℕ) → o ≡ m → o ≡ some i → a ≡ told (Err Untraceable) → ◌≡◌ {A = Answer} (record { number = a.number; first = i; second = a.second }) (misfit_told m)
+misfit-some i p q t = ap (λ (x : Answer). record { number = x.number; first = i; second = x.second }) t ∙ ap misfit_told (sym q ∙ p)
+
 -- ---- the public call
 
 module _ (l : Lent) (types fields consts bytes : List ℕ) {m w m' w' : List ℕ} {e : Entry} (s : Entered (m ∷ w ∷ []) (slot_tests types fields consts bytes m w l) e (m' ∷ w' ∷ [])) where
@@ -158,9 +166,9 @@ module _ (l : Lent) (types fields consts bytes : List ℕ) {m w m' w' : List ℕ
       (λ j. asked_of (t j) ((s.left ∙ ap (λ (x : Entry). scratch_after x (m ∷ w ∷ [])) i) j))
       ∙ sym (whether-not s (λ why. asked_of (refused_by (number_of why)) (scratch_after (Err why) (m ∷ w ∷ []))) (asked_of (misfit_told (misfit (table_of types fields consts bytes) (view l))) (map zeros (m ∷ w ∷ []))) i)
 
-  pub trace-done : (v : View) → seen v ≡ l → (o : Outcome ℕ) {r : Answer} → e ≡ ready → misfit_in o ≡ misfit (table_of types fields consts bytes) (state v) → r ≡ misfit_told (misfit_in o)
+  pub trace-done : (v : View) → seen v ≡ l → {r : Answer} → e ≡ ready → r ≡ misfit_told (misfit (table_of types fields consts bytes) (state v))
       → asked r m' w' ≡ trace_call types fields consts bytes m w l
-  trace-done v q o i f t =
-      let z : misfit_in o ≡ misfit (table_of types fields consts bytes) (view l) = f ∙ ap (λ (k : Lent). misfit (table_of types fields consts bytes) (view k)) q in
+  trace-done v q i t =
+      let z : misfit (table_of types fields consts bytes) (state v) ≡ misfit (table_of types fields consts bytes) (view l) = ap (λ (k : Lent). misfit (table_of types fields consts bytes) (view k)) q in
       (λ j. asked_of ((t ∙ ap misfit_told z) j) (cleared-in s i j))
       ∙ sym (whether-ready s (λ why. asked_of (refused_by (number_of why)) (scratch_after (Err why) (m ∷ w ∷ []))) (asked_of (misfit_told (misfit (table_of types fields consts bytes) (view l))) (map zeros (m ∷ w ∷ []))) i)

@@ -3,17 +3,17 @@
 #![tactic(auto)]
 
 ghost use Rattle.std.specs.Prelude.{◌≡◌, [], ◌∷◌, ◌<◌, length, IfOk};
-ghost use Rattle.ty.specs.View.{lent as table_in};
 ghost use Rattle.traced.specs.Listing.{listing};
 ghost use Rattle.traced.specs.Inner.Lists.{Lists};
 ghost use Rattle.heap.specs.Lent.{lent};
 ghost use Rattle.heap.specs.Inner.Seen.{seen, state};
 ghost use Rattle.door.specs.HeapCalls.{asked};
 ghost use Rattle.slot_door.specs.SlotHandles.{slot_handles, slot_tests, slot_call, slot_out};
-ghost use Rattle.slot_door.specs.Traceable.{fits_table, misfit, trace_call};
+ghost use Rattle.slot_door.specs.Traceable.{fits_table, misfit, trace_call, misfit_told};
 ghost use Rattle.slot_door.specs.Inner.Misfit.{misfit_in};
 ghost use Rattle.slot_door.specs.Inner.Objects.{shown_of};
 ghost use Rattle.door.specs.Inner.Entered.{Entered, entry_of};
+ghost use Rattle.ty.specs.Inner.Lent.{lent as table_in};
 
 use handle::Slots;
 use heap::Heap;
@@ -21,6 +21,7 @@ use heap::view::View;
 use mark::Objects;
 use refusal::{Answer, Refusal, Reply};
 use ty::Table;
+use ty_check::check_table;
 
 // Do scratch, heap and type table let the handles of a slot be listed? Then the heap, to be read.
 fn admit<'a>(
@@ -39,7 +40,7 @@ fn admit<'a>(
     ensures shows { IfOk result (λ v. seen v ≡ lent heap narrow.now wide.now pool.now) }
 {
     let view = door::see(heap, narrow, wide, pool, marks, work)?;
-    if !table.check_table() {
+    if !check_table(table) {
         return Err(Refusal::TypeTable);
     }
     Ok(view)
@@ -155,6 +156,20 @@ fn first_misfit(table: &Table, view: View) -> Option<usize>
     None
 }
 
+// Do a heap and a type table fit together? 13, with the first slot that does not fit.
+// Kept: after the refusal the answer has a slot too, which no `Result` that an `and_then` answers could hold.
+pub fn find_misfit(table: &Table, view: View) -> Answer
+    ensures { result ≡ misfit_told (misfit (table_in table.now) (state view.entry)) }
+{
+    match first_misfit(table, view) {
+        None => Answer::from(Ok((0, 0))),
+        Some(i) => Answer {
+            first: i as u64,
+            ..Answer::from(Err(Refusal::Untraceable))
+        },
+    }
+}
+
 // Do a heap and a type table fit together: has every object of kind Typed a type of the table, and can its handles be traced? 18, 1, 10, 13. After 13, first: the first slot that does not fit.
 // Kept: the C interface lends each part by itself.
 pub fn yexwalu_traceable(
@@ -179,15 +194,8 @@ pub fn yexwalu_traceable(
         consts,
         bytes,
     };
-    // Kept: after a refusal of its own the answer has a slot too, which no `Result` that an `and_then` answers could hold.
     match admit(&table, heap, narrow, wide, pool, marks, work) {
         Err(why) => Answer::from(Err(why)),
-        Ok(view) => match first_misfit(&table, view) {
-            None => Answer::from(Ok((0, 0))),
-            Some(i) => Answer {
-                first: i as u64,
-                ..Answer::from(Err(Refusal::Untraceable))
-            },
-        },
+        Ok(view) => find_misfit(&table, view),
     }
 }

@@ -3,17 +3,12 @@ use mathlib.Core.Path.{◌≡◌, refl, sym, ap, ◌∙◌}
 use mathlib.Core.Bool.{Bool, true, false, not, ◌&&◌}
 use mathlib.Core.List.{List, [], ◌∷◌, ◌++◌, map, append-nil}
 use Prim.Native.Nat.{ℕ, suc, ◌+◌, ◌*◌, ◌/◌, ◌≤◌, ◌<◌}
-use native.Mathlib.Omega.{arith}
-use native.Mathlib.Numerals.{add-one}
-use lib.ListN.{length, get_or, set, length-set, length-append}
-use lib.Dec.{eqb, ltb}
-use borrow.Author.Tests.{lt-ltb, le-ltb, eq-eqb, ne_eqb}
 use Rattle.std.specs.Prelude.{if◌then◌else◌}
 use Rattle.word.proofs.RunLaws.{run-get, first-get}
 use Rattle.heap.specs.Packing.{pad}
 use Rattle.heap.specs.State.{Slot, State, slot_at, live, last_generation, worn, bit, with_free, with_retired}
 use Rattle.heap.specs.Calls.{step, changed, release, released}
-use Rattle.heap.specs.Lent.{Lent, columns, column, cut, lent, header_of, stored, view, slot_count, pool_size}
+use Rattle.heap.specs.Lent.{Lent, columns, cut, lent, header_of, stored, view, slot_count, pool_size}
 use Rattle.heap.specs.Inner.Header.{set_free, set_retired, set_slots, set_changed}
 use Rattle.heap.specs.declared.Heap.{Heap}
 use Rattle.heap.proofs.Sound.{Sound, WellFormed, live_bit}
@@ -26,6 +21,11 @@ use Rattle.heap.proofs.Testing.{formed-tested}
 use Rattle.collection.specs.Swept.{goes, dropped, drop_slot, drop_slots, all_dropped}
 use Rattle.collection.proofs.Dropping.{after, after_next, after-all, after-sound, Dropping, dropping, goes-live}
 use Rattle.sweep.specs.Inner.Columns.{columns_of, dead_in, freed_in, retired_in, released_in, is_going, visited_in, CanRelease, CanVisit, CanSweep}
+use native.Mathlib.Omega.{arith}
+use native.Mathlib.Numerals.{add-one}
+use lib.ListN.{length, get_or, set, length-set, length-append}
+use lib.Dec.{eqb, ltb}
+use borrow.Author.Tests.{lt-ltb, le-ltb, eq-eqb, ne_eqb}
 
 -- ---- the ways out of `release`: five entries set, and one of a list
 

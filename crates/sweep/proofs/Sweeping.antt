@@ -10,7 +10,7 @@ use Rattle.heap.specs.Packing.{pad, ends}
 use Rattle.heap.specs.Inner.Columns.{datas, Packed}
 use Rattle.heap.specs.State.{Slot, State, no_slot, slot_at, data_of, live}
 use Rattle.heap.specs.Calls.{released, recycle}
-use Rattle.heap.specs.Lent.{Lent, columns, column, cut, lent, stored, view, header_of, slot_count, pool_size}
+use Rattle.heap.specs.Lent.{Lent, columns, cut, lent, stored, view, header_of, slot_count, pool_size}
 use Rattle.heap.specs.Inner.Header.{set_since, set_live}
 use Rattle.heap.specs.Done.{Leaves}
 use Rattle.heap.specs.Inner.Loans.{lies}

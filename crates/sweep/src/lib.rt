@@ -59,9 +59,10 @@ fn compact(n: usize, kind: &[u32], end: &mut [u64], pool: &mut [u8])
 }
 
 // Slot `i` of `s` is dead, one generation on, and logged; it is free, or retired where it is worn out. Its data stays in the pool for now.
-fn release(heap: Heap, narrow: &mut [u32], wide: &mut [u64], s: usize, i: usize) -> Heap
-    requires { CanRelease heap s i narrow.old wide.old }
-    ensures { cut result s narrow.new wide.new [] ≡ released_in (cut heap s narrow.old wide.old []) i }
+// Kept: the epoch and the log are changed in place, as `Heap::changed` says it of a header by value: given back by value the log of 16 slots is copied for each slot that goes.
+fn release(heap: &mut Heap, narrow: &mut [u32], wide: &mut [u64], s: usize, i: usize)
+    requires { CanRelease heap.old s i narrow.old wide.old }
+    ensures { cut heap.new s narrow.new wide.new [] ≡ released_in (cut heap.old s narrow.old wide.old []) i }
 {
     let f = heap.free;
     let r = heap.retired;
@@ -72,27 +73,30 @@ fn release(heap: Heap, narrow: &mut [u32], wide: &mut [u64], s: usize, i: usize)
     narrow[2 * s + i] = 0;
     wide[i] = 0;
     wide[2 * s + i] = 0;
-    let after = heap.changed(index);
+    let e = std::num::wrapping_add_u64(heap.epoch, 1);
+    heap.epoch = e;
+    heap.log[(e % 16) as usize] = index;
     if g == u32::MAX {
         narrow[5 * s + r] = index;
-        return after.with_retired(r + 1);
+        heap.retired = r + 1;
+        return;
     }
     narrow[3 * s + f] = index;
-    after.with_free(f + 1)
+    heap.free = f + 1;
 }
 
 // Slot `i` of `s` goes if it is live and its mark `m` is 0.
-fn visit(heap: Heap, narrow: &mut [u32], wide: &mut [u64], s: usize, i: usize, m: u8) -> Heap
-    requires { CanVisit heap s i narrow.old wide.old }
-    ensures { cut result s narrow.new wide.new [] ≡ visited_in m (cut heap s narrow.old wide.old []) i }
+fn visit(heap: &mut Heap, narrow: &mut [u32], wide: &mut [u64], s: usize, i: usize, m: u8)
+    requires { CanVisit heap.old s i narrow.old wide.old }
+    ensures { cut heap.new s narrow.new wide.new [] ≡ visited_in m (cut heap.old s narrow.old wide.old []) i }
 {
     if narrow[s + i] == 0 {
-        return heap;
+        return;
     }
     if m != 0 {
-        return heap;
+        return;
     }
-    release(heap, narrow, wide, s, i)
+    release(heap, narrow, wide, s, i);
 }
 
 // Every live slot that is not marked is released, in slot order; its data stays in the pool for now.
@@ -112,7 +116,7 @@ fn release_unmarked(
     let s = narrow.len() / 6;
     let mut h = heap;
     for i in 0..n {
-        h = visit(h, narrow, wide, s, i, marks[i]);
+        visit(&mut h, narrow, wide, s, i, marks[i]);
     }
     h
 }

@@ -17,6 +17,7 @@ use found::Sections;
 use pages::Listed;
 use refusal::Refusal;
 use ty::Table;
+use ty_check::check_table;
 
 // Reads k numbers of at most `most`, each with a comma after it, from `at` on into a list from `to` on.
 pub fn get_numbers<T: Listed>(
@@ -211,7 +212,7 @@ fn table_good(s: &[u8], x: Sections, words: &[u64], halves: &[u32]) -> bool
         consts: &words[16384..c],
         bytes: &s[0..n],
     };
-    table.check_table()
+    check_table(&table)
 }
 
 // Is a text that of a table which document 01 takes? Scratch holds its numbers afterwards.

@@ -15,6 +15,7 @@ use pages::Listed;
 use refusal::{Refusal, Reply};
 use text::output::Out;
 use ty::Table;
+use ty_check::check_table;
 
 // How many bytes the values of a list take as numbers, each with a comma after it.
 // Kept: apart from pages' `values_len`, whose body is the same: it tells of another text, with a line for each, and each law is about one of the two texts.
@@ -180,7 +181,7 @@ pub fn write(table: &Table, names: &[u8], out: &mut [u8]) -> Reply
     let Some(begin) = find_names(names, types, fields, consts) else {
         return Err(Refusal::Page);
     };
-    if !table.check_table() {
+    if !check_table(table) {
         return Err(Refusal::TypeTable);
     }
     let rest = rest_len(table);

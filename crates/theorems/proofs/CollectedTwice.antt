@@ -17,7 +17,7 @@ use Rattle.heap.specs.Calls.{Changed}
 use Rattle.heap.specs.declared.Heap.{Heap}
 use Rattle.heap.proofs.Testing.{formed-tested}
 use Rattle.heap.proofs.Storing.{view-stored}
-use Rattle.roots.specs.Calls.{function, need}
+use Rattle.code.specs.Lent.{function, need}
 use Rattle.collection.proofs.Twice.{joined-twice}
 use Rattle.door.specs.HeapCalls.{admitted, enough, zeros, Outcome, outcome_of, calling}
 use Rattle.door.specs.HeapCalls.{ready}

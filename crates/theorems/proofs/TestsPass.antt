@@ -11,10 +11,10 @@ use Rattle.heap.specs.Same.{same_header, same_lent}
 use Rattle.addresses.specs.Listed.{addresses_of, paired}
 use Rattle.door.specs.HeapCalls.{admitted, enough}
 use Rattle.flow.specs.Function.{safepoint, valid}
-use Rattle.roots.specs.View.{view as code_view, formed}
 use Rattle.collect_door.specs.Calls.{coded, roomy}
 use Rattle.theorems.specs.TestsPass.{TestsPass}
 use Rattle.word.specs.Run.{start_of}
+use Rattle.code.specs.View.{view as code_view, formed}
 
 pub tests-pass : TestsPass
 unfolding admitted enough coded roomy well_formed fits sound sound_slot partitioned retired_rightly sound_seals sound_reclaim same_header same_lent stored header_of view slot_in pad ends data_at start_of all all_below tabulate same_list table_good all_of rising_from addresses_of paired safepoint valid code_view formed times

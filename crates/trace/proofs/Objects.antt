@@ -6,11 +6,12 @@ use Rattle.std.specs.Prelude.{Some, None}
 use Rattle.ty.specs.Types.{Table}
 use Rattle.ty.specs.Walks.{has_handles}
 use Rattle.ty.specs.declared.Table.{Table as Lent}
-use Rattle.ty.specs.View.{lent, types_of}
+use Rattle.ty.specs.View.{types_of}
 use Rattle.trace.specs.Places.{places_at, object_places, rising, handles_places, kind_places}
 use Rattle.trace.specs.Inner.Emit.{Answer, Raw, Aim, handed, handed_all, handing_at, told}
 use Rattle.trace.proofs.Emits.{emit-none, emit-nil}
 use Rattle.ty.specs.DescSize.{desc_size}
+use Rattle.ty.specs.Inner.Lent.{lent}
 use mathlib.Core.Path.{◌≡◌, refl, ap, ◌∙◌}
 use mathlib.Core.Bool.{Bool, true, false}
 use mathlib.Core.List.{List}

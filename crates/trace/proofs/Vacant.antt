@@ -4,15 +4,11 @@ use mathlib.Core.List.{List, [], ◌∷◌}
 use mathlib.Core.Bool.{Bool, true, false}
 use mathlib.Core.Option.{some}
 use Prim.Native.Nat.{ℕ, suc, ◌+◌, ◌-◌, ◌*◌, ◌≤◌, max, min}
-use native.Mathlib.Omega.{arith}
-use lib.ListN.{length, drop}
-use lib.Dec.{eqb}
 use Rattle.std.specs.Prelude.{Some, None, Ok, Err, if◌then◌else◌}
 use Rattle.ty.specs.Scalars.{scalar_size}
 use Rattle.ty.specs.Types.{Ty, Ty.missing, Ty.int, Ty.physical, Ty.enum, Ty.real, Ty.array, Ty.fields, Ty.access, Ty.file, Ty.protected, Field, Field.field, Const, Const.plain, Const.other, Table, type_at, const_at, none as no_const}
 use Rattle.ty.specs.Words.{word_of, on_word, round_up, Word}
 use Rattle.ty.specs.Walks.{has_handles}
-use Rattle.ty.specs.View.{lent}
 use Rattle.ty.specs.declared.Table.{Table as Lent}
 use Rattle.layout.specs.Layout.{Lay, on_ok, on_bytes, under, used_by, placed, end_of, record_of, layout_by, layout_at, layout_of, laid}
 use Rattle.layout.specs.declared.Layout.{Layout}
@@ -23,6 +19,10 @@ use Rattle.trace.specs.Places.{Places, Below, many, turns, if_laid, if_bytes, pa
 use Rattle.trace.specs.Inner.Walk.{Counts}
 use Rattle.trace.specs.Inner.Emit.{Raw, Aim, handing_at}
 use Rattle.trace.proofs.Emits.{emit-nil, many-end}
+use Rattle.ty.specs.Inner.Lent.{lent}
+use native.Mathlib.Omega.{arith}
+use lib.ListN.{length, drop}
+use lib.Dec.{eqb}
 
 -- ---- a record has one element
 

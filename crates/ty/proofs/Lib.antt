@@ -4,8 +4,4 @@ pub mod Ranks
 pub mod Lookup
 pub mod Ranges
 pub mod WalkLaws
-pub mod CheckLaws
-pub mod CountLaws
-pub mod BoundLaws
-pub mod Sizes
 pub mod Rows

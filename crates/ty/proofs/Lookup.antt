@@ -9,10 +9,11 @@ use native.Mathlib.Omega.{arith}
 use lib.ListN.{length}
 use borrow.Author.Tests.{le-ltb}
 use Rattle.std.specs.Prelude.{Some, None}
-use Rattle.word.proofs.ListLaws.{get_d_tabulate, tabulate-past}
+use Rattle.word.proofs.ListLaws.{length-tabulate, get_d_tabulate, tabulate-past}
 use Rattle.ty.specs.Types.{Ty, Ty.missing, Const.other, type_at, const_at}
 use Rattle.ty.specs.Scalars.{scalar_size, elem_size, logic_leaf, leaf_by}
-use Rattle.ty.specs.View.{read_entry, read_ty, entry_at, types_of, read_part, part_at, consts_of, bare}
+use Rattle.ty.specs.View.{read_entry, read_ty, entry_at, types_of, read_part, part_at, consts_of}
+use Rattle.ty.specs.Inner.Rows.{bare}
 use Rattle.ty.specs.declared.Entry.{Entry}
 use Rattle.ty.specs.declared.Entry.TheVariants.{Int, Physical, Enum, Real, Array, Record, Access, File, Protected}
 
@@ -41,6 +42,11 @@ const-at w b c = ⊎_elim
     (λ h. tabulate-past (length w / 3) (λ i. read_part b (part_at w (length b) i)) c other h ∙ sym (const-out w b c h))
     (λ h. get_d_tabulate (length w / 3) (λ i. read_part b (part_at w (length b) i)) c other h)
     (le-or-lt (length w / 3) c)
+
+-- as many types as rows
+pub length_types : (w fs : List ℕ) → length (types_of w fs) ≡ length w / 4
+unfolding types_of
+length_types w fs = length-tabulate (length w / 4) (λ i. read_ty fs (entry_at w (length fs / 2) i))
 
 -- an entry that is no Int
 pub not_int : (e : Entry) → ((lo hi : ℕ) → e ≡ Int lo hi → ⊥) → scalar_size (bare e) ≡ elem_size (bare e)

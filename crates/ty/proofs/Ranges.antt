@@ -3,15 +3,16 @@ use mathlib.Core.Path.{◌≡◌, refl, sym, ap, ◌∙◌}
 use mathlib.Core.List.{List}
 use mathlib.Core.Bool.{Bool, true, false}
 use Prim.Native.Nat.{ℕ, ◌+◌, ◌*◌, ◌/◌, ◌≤◌}
+use Rattle.std.specs.Prelude.{Option, Some, None, if◌then◌else◌}
+use Rattle.ty.specs.Scalars.{scalar_size, elem_size}
+use Rattle.ty.specs.View.{read_entry, entry_of, entry_at, part_at}
+use Rattle.ty.specs.declared.Entry.{Entry}
+use Rattle.ty.specs.declared.Entry.TheVariants.{Int, Physical, Enum, Real, Array, Record, Access, File, Protected}
+use Rattle.ty.specs.Inner.Rows.{bare}
 use native.Mathlib.Omega.{arith}
 use lib.ListN.{length, get_or}
 use lib.Dec.{ltb, leb, eqb}
 use borrow.Author.Tests.{leb-true}
-use Rattle.std.specs.Prelude.{Option, Some, None, if◌then◌else◌}
-use Rattle.ty.specs.Scalars.{scalar_size, elem_size}
-use Rattle.ty.specs.View.{read_entry, entry_of, entry_at, part_at, bare}
-use Rattle.ty.specs.declared.Entry.{Entry}
-use Rattle.ty.specs.declared.Entry.TheVariants.{Int, Physical, Enum, Real, Array, Record, Access, File, Protected}
 
 -- where a constant's part lies
 part-cases : (nb a n : ℕ) (i j k : Bool) (x y : ℕ) → leb (a + n) nb ≡ k → if◌then◌else◌ {A = Option (ℕ × ℕ)} i (if◌then◌else◌ j (if◌then◌else◌ k (Some (a, a + n)) None) None) None ≡ Some (x, y) → (x ≤ y) × (y ≤ nb)

@@ -4,7 +4,6 @@ use Rattle.std.specs.Prelude.{ℕ, zero, suc, ◌+◌, ◌-◌, ◌*◌, ◌/◌
 use Rattle.ty.specs.Types.{Ty, Ty.missing, Ty.int, Ty.physical, Ty.enum, Ty.real, Ty.array, Ty.fields, Ty.access, Ty.file, Ty.protected, Field, Field.field, Const, Const.plain, Const.other, Table}
 use Rattle.word.specs.Lists.{tabulate}
 use Rattle.ty.specs.declared.Entry.{Entry}
-use Rattle.ty.specs.declared.Table.{Table as Lent}
 use Rattle.ty.specs.declared.Entry.TheVariants.{Int, Physical, Enum, Real, Array, Record, Access, File, Protected}
 
 -- the type whose class is the first of its words; a record whose fields lie outside of the nf fields is none
@@ -47,19 +46,6 @@ unfoldable pub read_ty : List ℕ → Option Entry → Ty
 read_ty fs None = missing
 read_ty fs (Some e) = read_entry fs e
 
--- the fields of a record, the first and how many; none of another type
-unfoldable pub fields_of : Option Entry → Option (ℕ × ℕ)
-fields_of None = None
-fields_of (Some (Int lo hi)) = None
-fields_of (Some Physical) = None
-fields_of (Some (Enum n logic)) = None
-fields_of (Some Real) = None
-fields_of (Some (Array e c k)) = None
-fields_of (Some (Record i n)) = Some (i, n)
-fields_of (Some Access) = None
-fields_of (Some File) = None
-fields_of (Some Protected) = None
-
 -- where the bytes of constant c lie, from and to, three words a constant
 unfoldable pub part_at : List ℕ → ℕ → ℕ → Option (ℕ × ℕ)
 part_at w nb c =
@@ -81,11 +67,3 @@ consts_of cs b = tabulate (length cs / 3) (λ i. read_part b (part_at cs (length
 
 abbrev pub table_of : List ℕ → List ℕ → List ℕ → List ℕ → Table
 table_of w fs cs b = record { types = types_of w fs; consts = consts_of cs b }
-
--- an entry by itself, of a record without its fields
-abbrev pub bare : Entry → Ty
-bare e = read_entry [] e
-
--- the table that is lent
-abbrev pub lent : Lent → Table
-lent T = table_of T.types.now T.fields.now T.consts.now T.bytes.now

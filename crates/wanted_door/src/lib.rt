@@ -3,7 +3,6 @@
 #![tactic(auto)]
 
 ghost use Rattle.std.specs.Prelude.{◌≡◌, [], ◌∷◌, map, length, IfOk, filter};
-ghost use Rattle.ty.specs.View.{lent as table_in};
 ghost use Rattle.heap.specs.Lent.{lent};
 ghost use Rattle.heap.specs.Inner.Seen.{seen, state};
 ghost use Rattle.traced.specs.Inner.Lists.{Lists};
@@ -13,6 +12,7 @@ ghost use Rattle.wanted.specs.Search.{noted};
 ghost use Rattle.wanted_door.specs.Inner.Listing.{CanName, named_in};
 ghost use Rattle.wanted_door.specs.RootsFor.{root_handles, wanted_tests, roots_call, roots_out, RightRoots};
 ghost use Rattle.door.specs.Inner.Entered.{Entered, entry_of};
+ghost use Rattle.ty.specs.Inner.Lent.{lent as table_in};
 
 use heap::Heap;
 use heap::view::View;
@@ -20,6 +20,7 @@ use mark::{Objects, seals};
 use pick::Search;
 use refusal::{Answer, Refusal, Reply};
 use ty::Table;
+use ty_check::check_table;
 
 mod list; // the roots that were picked, counted and written
 mod pick; // the two goings through the wanted slots
@@ -43,7 +44,7 @@ fn admit<'a>(
     ensures shows { IfOk result (λ v. seen v ≡ lent heap narrow.now wide.now pool.now) }
 {
     let view = door::see(heap, narrow, wide, pool, marks, work)?;
-    if !table.check_table() {
+    if !check_table(table) {
         return Err(Refusal::TypeTable);
     }
     if !heap_calls::recycle::rise(pins) {
@@ -71,7 +72,7 @@ fn name_roots(tag: u8, narrow: &[u32], wanted: &[u32], work: &[u64], out: &mut [
 }
 
 // The roots of a heap that keep just the wanted slots: 21, 7.
-fn list_roots(
+pub fn list_roots(
     table: &Table,
     view: View,
     pins: &[u32],

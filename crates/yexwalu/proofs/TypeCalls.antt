@@ -3,33 +3,23 @@ use mathlib.Core.Path.{◌≡◌, refl, sym, ap, ◌∙◌}
 use mathlib.Core.Bool.{Bool, true, false}
 use mir.Val.{bool_byte}
 use mathlib.Core.List.{List}
-use native.Mathlib.Omega.{arith}
 use Prim.Native.Nat.{ℕ}
-use Rattle.ty.specs.Words.{Word}
-use Rattle.std.specs.Prelude.{Option, Some, None, Ok}
+use Rattle.std.specs.Prelude.{Ok}
 use Rattle.word.specs.Result.{Result, ok, refused}
 use Rattle.refusal.specs.Told.{told as told_reply, answered, refused_by, here, nothing}
 use Rattle.refusal.specs.declared.Answer.{Answer}
 use Rattle.ty.specs.Check.{table_good}
-use Rattle.ty.specs.Walks.{desc_bytes, has_handles}
+use Rattle.ty.specs.Walks.{has_handles}
 use Rattle.ty.specs.DescSize.{desc_size}
 use Rattle.ty.specs.View.{types_of, table_of}
-use Rattle.ty.proofs.Sizes.{exact}
 use Rattle.layout.specs.Offsets.{Values, layout_call, written_by}
 use Rattle.layout.specs.Inner.Told.{told}
 use Rattle.yexwalu.specs.Table.{on_table}
-use Rattle.yexwalu.specs.Types.{laid, layout_called, sized, size_called, handles_called}
+use Rattle.yexwalu.specs.Types.{laid, layout_called, size_called, handles_called}
 use Rattle.held_types.specs.declared.Laying.{Laying as LayoutAnswer}
-use Rattle.held_types.proofs.Telling.{yes-no}
+use Rattle.held_types.proofs.Telling.{size-exact, yes-no}
 use Rattle.yexwalu.proofs.TableCalls.{table-bad, table-good}
-
-sized-some : (x : Option ℕ) (n : ℕ) → x ≡ Some n → sized x ≡ ok n
-sized-some None n e = let z : ◌≡◌ {A = ℕ} 0 1 = cc in absurd (omega arith)
-sized-some (Some m) n e = let q : m ≡ n = cc in ap ok q
-
-sized-none : (x : Option ℕ) → x ≡ None → sized x ≡ refused 11
-sized-none None e = refl
-sized-none (Some m) e = let z : ◌≡◌ {A = ℕ} 0 1 = cc in absurd (omega arith)
+use Rattle.held_types.specs.Laid.{sized}
 
 module _ (w fs cs b : List ℕ) (t : ℕ) {g : Bool} (eg : g ≡ table_good w fs cs b) where
   -- refused: whatever the call is
@@ -39,15 +29,8 @@ module _ (w fs cs b : List ℕ) (t : ℕ) {g : Bool} (eg : g ≡ table_good w fs
   answer-passed : {r : Answer} {x y : Result ℕ} → g ≡ true → x ≡ y → r ≡ answered here nothing y → r ≡ answered here nothing (on_table w fs cs b x)
   answer-passed {r} {x} {y} h q e = e ∙ sym (ap (answered here nothing) (table-good w fs cs b eg x h ∙ q))
 
-  -- a checked table's size is exact
-  size_exact : {x y : Word} → g ≡ true → x ≡ desc_size (types_of w fs) t → x ≡ y → desc_bytes (types_of w fs) t ≡ y
-  size_exact h e q = sym (exact w fs cs b (sym eg ∙ h) t) ∙ sym e ∙ q
-
-  pub size-passed : {x : Word} {n : ℕ} {r : Answer} → g ≡ true → x ≡ desc_size (types_of w fs) t → x ≡ Some n → r ≡ answered here nothing (ok n) → r ≡ answered here nothing (size_called w fs cs b t)
-  size-passed {x} {n} h e q a = answer-passed h (sized-some (desc_bytes (types_of w fs) t) n (size_exact h e q)) a
-
-  pub size_none : {x : Word} {r : Answer} → g ≡ true → x ≡ desc_size (types_of w fs) t → x ≡ None → r ≡ refused_by 11 → r ≡ answered here nothing (size_called w fs cs b t)
-  size_none h e q a = answer-passed h (sized-none (desc_bytes (types_of w fs) t) (size_exact h e q)) a
+  pub size-passed : {r : Answer} → g ≡ true → r ≡ answered here nothing (sized (desc_size (types_of w fs) t)) → r ≡ answered here nothing (size_called w fs cs b t)
+  size-passed h e = answer-passed h refl (size-exact w fs cs b t (sym eg ∙ h) e)
 
   pub handles-told : {x : Bool} {n : ℕ} {r : Answer} → g ≡ true → x ≡ has_handles (types_of w fs) t → n ≡ bool_byte x → r ≡ told_reply (Ok (n, 0)) → r ≡ answered here nothing (handles_called w fs cs b t)
   handles-told h e q a = answer-passed h refl (yes-no e q a)

@@ -1,6 +1,6 @@
 -- What the calls about types answer (01, "Type table"; 10, then 11 or 12, then 7).
-use Rattle.std.specs.Prelude.{Option, Some, None, ℕ, List, if◌then◌else◌}
-use Rattle.word.specs.Result.{Result, ok, refused}
+use Rattle.std.specs.Prelude.{ℕ, List, if◌then◌else◌}
+use Rattle.word.specs.Result.{Result, ok}
 use Rattle.ty.specs.Walks.{desc_bytes, has_handles}
 use Rattle.ty.specs.View.{types_of, table_of}
 use Rattle.layout.specs.Offsets.{Values, layout_call}
@@ -16,13 +16,8 @@ laid r = layings.laid r
 abbrev pub layout_called : (w fs cs b : List ℕ) (t : ℕ) (d : List ℕ) (places : ℕ) → Result Values
 layout_called w fs cs b t d places = on_table w fs cs b (layout_call (table_of w fs cs b) t d places)
 
--- "no size" is told as 11
-abbrev pub sized : Option ℕ → Result ℕ
-sized (Some n) = ok n
-sized None = refused 11
-
 abbrev pub size_called : (w fs cs b : List ℕ) (t : ℕ) → Result ℕ
-size_called w fs cs b t = on_table w fs cs b (sized (desc_bytes (types_of w fs) t))
+size_called w fs cs b t = on_table w fs cs b (layings.sized (desc_bytes (types_of w fs) t))
 
 abbrev pub handles_called : (w fs cs b : List ℕ) (t : ℕ) → Result ℕ
 handles_called w fs cs b t = on_table w fs cs b (ok (if has_handles (types_of w fs) t then 1 else 0))

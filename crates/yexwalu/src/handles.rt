@@ -11,6 +11,7 @@ ghost use Rattle.yexwalu.specs.Handles.{HandlesCall, RootsCall};
 use refusal::{Answer, Refusal};
 pub use slot_door::{yexwalu_slot_handles as slot_handles, yexwalu_traceable as traceable};
 use ty::Table;
+use ty_check::check_table;
 pub use yexwalu_object_handles as object_handles;
 pub use yexwalu_slot_roots as slot_roots;
 pub use yexwalu_value_handles as value_handles;
@@ -36,7 +37,7 @@ pub fn yexwalu_object_handles(
         consts,
         bytes,
     };
-    if !table.check_table() {
+    if !check_table(&table) {
         return Answer::from(Err(Refusal::TypeTable));
     }
     Answer::from(traced::list_object(&table, t, data, out))
@@ -64,7 +65,7 @@ pub fn yexwalu_value_handles(
         consts,
         bytes,
     };
-    if !table.check_table() {
+    if !check_table(&table) {
         return Answer::from(Err(Refusal::TypeTable));
     }
     Answer::from(traced::list_value(&table, t, data, out))
@@ -94,7 +95,7 @@ pub fn yexwalu_slot_roots(
         consts,
         bytes,
     };
-    if !table.check_table() {
+    if !check_table(&table) {
         return Answer::from(Err(Refusal::TypeTable));
     }
     Answer::from(frame::list_roots(&table, map, memory, handles, addresses))

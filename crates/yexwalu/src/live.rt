@@ -2,12 +2,12 @@
 // read and its target blocks end in `refs`; `blocks`, start and end of each; `classes`, one a register.
 ghost use Rattle.std.specs.Prelude.{◌≡◌};
 ghost use Rattle.roots.specs.Calls.{LiveAtCall};
-ghost use Rattle.roots.specs.Inner.Columns.{wanted};
+ghost use Rattle.code.specs.Inner.Columns.{wanted};
 ghost use Rattle.root_map.specs.Calls.{LiveRefsCall};
 ghost use Rattle.yexwalu.specs.Live.{asked};
 
+use code::{Code, Tracked};
 use refusal::Answer;
-use roots::{Code, Tracked};
 pub use yexwalu_live_at as live_at;
 pub use yexwalu_live_refs as live_refs;
 
@@ -44,7 +44,7 @@ pub fn yexwalu_live_at(
         blocks,
         classes,
     };
-    let reply = roots::at::live_at(code, tracked(all), pc, regs, rows);
+    let reply = roots::live_at(code, tracked(all), pc, regs, rows);
     Answer::from(reply)
 }
 

@@ -8,6 +8,7 @@ ghost use Rattle.yexwalu.specs.Types.{laid, layout_called, size_called, handles_
 use held_types::Laying;
 use refusal::{Answer, Refusal};
 use ty::Table;
+use ty_check::check_table;
 pub use yexwalu_desc_size as desc_size;
 pub use yexwalu_has_handles as has_handles;
 
@@ -37,7 +38,7 @@ pub fn yexwalu_layout(
         consts,
         bytes,
     };
-    if !table.check_table() {
+    if !check_table(&table) {
         return LayoutAnswer::from(Err(Refusal::TypeTable));
     }
     LayoutAnswer::from(layout::lay_out(&table, t, desc, out))
@@ -79,13 +80,10 @@ pub fn yexwalu_desc_size(
         consts,
         bytes,
     };
-    if !table.check_table() {
+    if !check_table(&table) {
         return Answer::from(Err(Refusal::TypeTable));
     }
-    let Some(n) = table.desc_size(t) else {
-        return Answer::from(Err(Refusal::Malformed));
-    };
-    Answer::from(Ok((n, 0)))
+    held_types::tell_size(&table, t)
 }
 
 // Whether values of type t can hold handles: 1 or 0.
@@ -104,7 +102,7 @@ pub fn yexwalu_has_handles(
         consts,
         bytes,
     };
-    if !table.check_table() {
+    if !check_table(&table) {
         return Answer::from(Err(Refusal::TypeTable));
     }
     Answer::from(Ok((u64::from(table.has_handles(t)), 0)))

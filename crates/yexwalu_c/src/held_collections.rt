@@ -5,6 +5,7 @@ ghost use Rattle.door.specs.HeapCalls.{outcome};
 ghost use Rattle.collect_door.specs.Calls.{collect_call};
 ghost use Rattle.collect_door.specs.Demand.{RightlyCollected};
 ghost use Rattle.held.specs.Held.{in_place};
+ghost use Rattle.ty.specs.Check.{table_good};
 
 use refusal::Answer;
 
@@ -26,7 +27,8 @@ pub extern "C" fn yexwalu_held_collect(
     marks: &mut [u8],
     work: &mut [u64],
 ) -> Answer
-    requires { well_formed (in_place tag.old numbers.old log.old lengths.old narrow.old wide.old pool.old) ≡ true }
+    requires formed { well_formed (in_place tag.old numbers.old log.old lengths.old narrow.old wide.old pool.old) ≡ true }
+    requires good { table_good types.now fields.now consts.now bytes.now ≡ true }
     ensures work_after { outcome result (in_place tag.new numbers.new log.new lengths.new narrow.new wide.new pool.new)
         marks.new work.new
         ≡ collect_call

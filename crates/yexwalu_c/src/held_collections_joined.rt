@@ -5,6 +5,7 @@ ghost use Rattle.door.specs.HeapCalls.{outcome_of};
 ghost use Rattle.collect_door.specs.Calls.{joined_call};
 ghost use Rattle.collect_door.specs.Demand.{Demand};
 ghost use Rattle.held.specs.Held.{in_place};
+ghost use Rattle.ty.specs.Check.{table_good};
 
 use refusal::Answer;
 
@@ -36,7 +37,8 @@ pub extern "C" fn yexwalu_held_collect_joined(
     work: &mut [u64],
     rows: &mut [u64],
 ) -> Answer
-    requires { well_formed (in_place tag.old numbers.old log.old lengths.old narrow.old wide.old pool.old) ≡ true }
+    requires formed { well_formed (in_place tag.old numbers.old log.old lengths.old narrow.old wide.old pool.old) ≡ true }
+    requires good { table_good types.now fields.now consts.now bytes.now ≡ true }
     ensures rows_after { outcome_of result (in_place tag.new numbers.new log.new lengths.new narrow.new wide.new pool.new)
         (marks.new ∷ work.new ∷ rows.new ∷ [])
         ≡ joined_call (record {

@@ -1,15 +1,17 @@
 // For C: the calls of held_reads.
-ghost use Rattle.std.specs.Prelude.{◌≡◌, true, [], length};
+ghost use Rattle.std.specs.Prelude.{◌≡◌, true, length};
 ghost use Rattle.word.specs.Result.{ok};
 ghost use Rattle.refusal.specs.Told.{answered, here, nothing};
 ghost use Rattle.heap.specs.Lent.{view};
 ghost use Rattle.heap.specs.WellFormed.{well_formed};
-ghost use Rattle.door.specs.HeapCalls.{asked_of};
 ghost use Rattle.pages.specs.Form.{written};
 ghost use Rattle.pages.specs.Page.{page_text};
 ghost use Rattle.pages.specs.Answer.{text_answer, text_out};
 ghost use Rattle.held.specs.Held.{in_place};
-ghost use Rattle.held_reads.specs.Slot.{held_slot_call, slot_out};
+ghost use Rattle.ty.specs.View.{table_of};
+ghost use Rattle.traced.specs.Listing.{written_to};
+ghost use Rattle.slot_door.specs.SlotHandles.{slot_handles};
+ghost use Rattle.slot_door.specs.Traceable.{misfit, misfit_told};
 
 use refusal::Answer;
 
@@ -30,13 +32,38 @@ pub extern "C" fn yexwalu_held_slot_handles(
     out: &mut [u64],
 ) -> Answer
     requires { well_formed (in_place tag.now numbers.now log.now lengths.now narrow.now wide.now pool.now) ≡ true }
-    ensures answer { asked_of result [] ≡ held_slot_call types.now fields.now consts.now bytes.now
-        (in_place tag.now numbers.now log.now lengths.now narrow.now wide.now pool.now) slot out.old }
-    ensures out_after { out.new ≡ slot_out types.now fields.now consts.now bytes.now
-        (in_place tag.now numbers.now log.now lengths.now narrow.now wide.now pool.now) slot out.old }
+    ensures answer { result ≡ answered length nothing (slot_handles
+        (table_of types.now fields.now consts.now bytes.now) slot (length out.old)
+        (view (in_place tag.now numbers.now log.now lengths.now narrow.now wide.now pool.now))) }
+    ensures out_after { out.new ≡ written_to out.old (slot_handles
+        (table_of types.now fields.now consts.now bytes.now) slot (length out.old)
+        (view (in_place tag.now numbers.now log.now lengths.now narrow.now wide.now pool.now))) }
 {
     held_reads::yexwalu_held_slot_handles(
         types, fields, consts, bytes, tag, numbers, log, lengths, narrow, wide, pool, slot, out,
+    )
+}
+
+#[unsafe(no_mangle)]
+pub extern "C" fn yexwalu_held_traceable(
+    types: &[u64],
+    fields: &[u32],
+    consts: &[u64],
+    bytes: &[u8],
+    tag: &[u8; 1],
+    numbers: &[u64; 4],
+    log: &[u32; 16],
+    lengths: &[u64; 5],
+    narrow: &[u32],
+    wide: &[u64],
+    pool: &[u8],
+) -> Answer
+    requires { well_formed (in_place tag.now numbers.now log.now lengths.now narrow.now wide.now pool.now) ≡ true }
+    ensures { result ≡ misfit_told (misfit (table_of types.now fields.now consts.now bytes.now)
+        (view (in_place tag.now numbers.now log.now lengths.now narrow.now wide.now pool.now))) }
+{
+    held_reads::yexwalu_held_traceable(
+        types, fields, consts, bytes, tag, numbers, log, lengths, narrow, wide, pool,
     )
 }
 

@@ -1,13 +1,16 @@
 // For C: the calls of held_types.
-ghost use Rattle.std.specs.Prelude.{◌≡◌, length, if◌then◌else◌};
+ghost use Rattle.std.specs.Prelude.{◌≡◌, length, true, if◌then◌else◌};
 ghost use Rattle.word.specs.Result.{ok};
 ghost use Rattle.refusal.specs.Told.{answered, here, nothing};
 ghost use Rattle.ty.specs.View.{types_of, table_of};
-ghost use Rattle.ty.specs.Walks.{has_handles};
+ghost use Rattle.ty.specs.Walks.{has_handles, desc_bytes};
 ghost use Rattle.layout.specs.Offsets.{offsets_of, layout_call, written_by};
 ghost use Rattle.trace.specs.Places.{object_handles, value_handles};
 ghost use Rattle.traced.specs.Listing.{listing, written_to};
-ghost use Rattle.held_types.specs.Laid.{laid};
+ghost use Rattle.held_types.specs.Laid.{laid, sized};
+ghost use Rattle.ty.specs.Check.{table_good};
+ghost use Rattle.frame.specs.Frame.{frame_handles, frame_addresses};
+ghost use Rattle.frame.specs.Listing.{roots_listing, handles_to, addresses_to};
 
 use held_types::Laying;
 use refusal::Answer;
@@ -29,6 +32,20 @@ pub extern "C" fn yexwalu_held_layout(
         (offsets_of (table_of types.now fields.now consts.now bytes.now) t desc.now) out.old }
 {
     held_types::yexwalu_held_layout(types, fields, consts, bytes, t, desc, out)
+}
+
+#[unsafe(no_mangle)]
+pub extern "C" fn yexwalu_held_desc_size(
+    types: &[u64],
+    fields: &[u32],
+    consts: &[u64],
+    bytes: &[u8],
+    t: u64,
+) -> Answer
+    requires { table_good types.now fields.now consts.now bytes.now ≡ true }
+    ensures { result ≡ answered here nothing (sized (desc_bytes (types_of types.now fields.now) t)) }
+{
+    held_types::yexwalu_held_desc_size(types, fields, consts, bytes, t)
 }
 
 #[unsafe(no_mangle)]
@@ -72,4 +89,33 @@ pub extern "C" fn yexwalu_held_value_handles(
         (listing (value_handles (table_of types.now fields.now consts.now bytes.now) t «data».now) (length out.old)) }
 {
     held_types::yexwalu_held_value_handles(types, fields, consts, bytes, t, data, out)
+}
+
+#[unsafe(no_mangle)]
+pub extern "C" fn yexwalu_held_slot_roots(
+    types: &[u64],
+    fields: &[u32],
+    consts: &[u64],
+    bytes: &[u8],
+    map: &[u32],
+    memory: &[u8],
+    handles: &mut [u64],
+    addresses: &mut [u64],
+) -> Answer
+    ensures answer { result ≡ answered (λ c. length c.handles) (λ c. length c.addresses) (roots_listing
+        (frame_handles (table_of types.now fields.now consts.now bytes.now) map.now memory.now)
+        (frame_addresses (table_of types.now fields.now consts.now bytes.now) map.now memory.now)
+        (length handles.old) (length addresses.old)) }
+    ensures handles_after { handles.new ≡ handles_to handles.old (roots_listing
+        (frame_handles (table_of types.now fields.now consts.now bytes.now) map.now memory.now)
+        (frame_addresses (table_of types.now fields.now consts.now bytes.now) map.now memory.now)
+        (length handles.old) (length addresses.old)) }
+    ensures addresses_after { addresses.new ≡ addresses_to addresses.old (roots_listing
+        (frame_handles (table_of types.now fields.now consts.now bytes.now) map.now memory.now)
+        (frame_addresses (table_of types.now fields.now consts.now bytes.now) map.now memory.now)
+        (length handles.old) (length addresses.old)) }
+{
+    held_types::yexwalu_held_slot_roots(
+        types, fields, consts, bytes, map, memory, handles, addresses,
+    )
 }

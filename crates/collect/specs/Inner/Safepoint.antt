@@ -7,9 +7,9 @@ use Rattle.ty.specs.Types.{Table}
 use Rattle.heap.specs.State.{State}
 use Rattle.heap.specs.Calls.{Changed, refuse}
 use Rattle.flow.specs.Function.{Function, safepoint}
-use Rattle.roots.specs.Calls.{Lent, function, right, need}
 use Rattle.collection.specs.Joined.{live_references, joined}
 use Rattle.collection.specs.JoinedDemand.{Pinning}
+use Rattle.code.specs.Lent.{Lent, function, right, need}
 
 -- no map (16) where pc is no safepoint inside a block, the heap unchanged
 unfoldable pub at_safepoint : Table → Function → (pc : ℕ) (values : List ℕ) (frame : Option (List ℕ)) (pins : Pinning) → State → Changed Unit

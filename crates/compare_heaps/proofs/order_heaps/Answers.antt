@@ -1,9 +1,9 @@
 -- `compare_heaps::order_heaps` meets its contract.
 use mathlib.Core.Path.{◌∙◌}
 use native.Mathlib.Omega.{arith}
-use Rattle.ty.specs.View.{lent}
 use Rattle.models.proofs.Heaps.{short-constants}
 use Rattle.compare_heaps.proofs.OrderFound.{both-first, both-second, both-can, both-found, mark-room, mark-clear}
+use Rattle.ty.specs.Inner.Lent.{lent}
 use Rattle.compare_heaps.proofs.order_heaps.Goals as goal
 
 pub slice_bounds-first_met-end : goal.slice_bounds-first_met-end

@@ -1,7 +1,8 @@
 -- `layout::layout_listed` meets its contract.
 use Prim.Native.Nat.{◌+◌, ◌-◌}
 use mathlib.Core.Path.{◌≡◌}
-use Rattle.ty.specs.View.{lent, fields_from}
+use Rattle.ty.specs.Inner.Lent.{lent}
+use Rattle.ty.specs.View.{fields_from}
 use Rattle.layout.specs.Layout.{record_of, layout_at}
 use Rattle.layout.proofs.OffsetLaws.{Writing}
 use Rattle.layout.proofs.layout_listed.Given as goal

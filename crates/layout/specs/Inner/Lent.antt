@@ -3,13 +3,14 @@ use Rattle.std.specs.Prelude.{ℕ, suc, ◌+◌, ◌*◌, ◌/◌, ◌≤◌, �
 use Rattle.word.specs.Put.{put}
 use Rattle.ty.specs.Types.{type_at, none}
 use Rattle.ty.specs.Scalars.{scalar_size}
-use Rattle.ty.specs.View.{entry_at, lent, fields_from}
+use Rattle.ty.specs.View.{entry_at, fields_from}
 use Rattle.ty.specs.declared.Table.{Table}
 use Rattle.ty.specs.declared.Entry.TheVariants.{Record}
 use Rattle.layout.specs.Layout.{Lay, under, array_of, record_of, layout_at}
 use Rattle.layout.specs.Offsets.{offsets_from, listed_in, written_by}
 use Rattle.layout.specs.Inner.Told.{told}
 use Rattle.layout.specs.declared.Layout.{Layout}
+use Rattle.ty.specs.Inner.Lent.{lent}
 
 module _ (T : Table) where
   -- the bytes of a field that is a scalar without a constant

@@ -1,7 +1,7 @@
 -- `root_map::block_of` meets its contract.
 use mathlib.Core.Path.{refl}
 use native.Mathlib.Omega.{arith}
-use Rattle.roots.proofs.Checks.{formed-fit}
+use Rattle.code.proofs.Checks.{formed-fit}
 use Rattle.root_map.proofs.Pointing.{found-on, found-last}
 use Rattle.root_map.proofs.block_of.Goals as goal
 use Rattle.root_map.proofs.block_of.Goals.{then-b-blocks+else-st-pc, else-b-blocks}

@@ -1,10 +1,10 @@
 -- `root_map::block_row` meets its contract.
 use mathlib.Core.Path.{refl}
 use native.Mathlib.Omega.{arith}
-use Rattle.roots.specs.Inner.Columns.{wanted}
-use Rattle.roots.proofs.Forms.{ends-inside}
-use Rattle.roots.proofs.Plans.{few-blocks}
-use Rattle.roots.proofs.Scratch.{outside_trans}
+use Rattle.code.specs.Inner.Columns.{wanted}
+use Rattle.code.proofs.Forms.{ends-inside}
+use Rattle.code.proofs.Plans.{few-blocks}
+use Rattle.liveness.proofs.Scratch.{outside_trans}
 use Rattle.root_map.proofs.Pointing.{row_on, row_in}
 use Rattle.root_map.proofs.block_row.Goals as goal
 

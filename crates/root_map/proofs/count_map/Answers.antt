@@ -1,7 +1,7 @@
 use native.Mathlib.Omega.{arith}
-use Rattle.roots.proofs.Checks.{formed-fit}
-use Rattle.roots.specs.Inner.Plans.{out_row}
-use Rattle.roots.proofs.Scratch.{mid-length}
+use Rattle.code.proofs.Checks.{formed-fit}
+use Rattle.liveness.specs.Inner.Plans.{out_row}
+use Rattle.liveness.proofs.Scratch.{mid-length}
 use Rattle.root_map.proofs.Pointing.{fixed_out}
 use Rattle.root_map.proofs.Maps.{back_one, found-next, placed-next, counting-none, counting-yes, counting-no, counting-end}
 use Rattle.root_map.proofs.count_map.Goals as goal

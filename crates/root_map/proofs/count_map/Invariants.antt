@@ -1,5 +1,5 @@
 -- `root_map::count_map` meets its contract.
-use Rattle.roots.specs.Inner.Columns.{wanted}
+use Rattle.code.specs.Inner.Columns.{wanted}
 use Rattle.root_map.proofs.Maps.{Counting}
 use Rattle.root_map.proofs.count_map.Given as goal
 

@@ -3,11 +3,11 @@ use native.Mathlib.Omega.{arith}
 use mathlib.Core.Path.{refl, sym, ◌∙◌, ap}
 use Prim.Native.Nat.{ℕ}
 use lib.ListN.{replicate}
-use Rattle.roots.specs.Inner.Columns.{wanted}
-use Rattle.roots.specs.Inner.Plans.{lent, planned}
-use Rattle.roots.proofs.Chaining.{chains-none}
-use Rattle.roots.proofs.Checks.{refuted, above}
-use Rattle.roots.proofs.Plans.{few-blocks}
+use Rattle.code.specs.Inner.Columns.{wanted}
+use Rattle.code.specs.Inner.Plans.{lent, planned}
+use Rattle.liveness.proofs.Chaining.{chains-none}
+use Rattle.code.proofs.Checks.{refuted, above}
+use Rattle.code.proofs.Plans.{few-blocks}
 use Rattle.roots.proofs.Asking.{asked-room, need-rows, few-words}
 use Rattle.root_map.proofs.Pointing.{fixed_out}
 use Rattle.root_map.proofs.Answers.{refs-scratch, refs-function, room_for, refs-short, refs-map, asked-map}

@@ -1,5 +1,5 @@
 -- `root_map::point_row` meets its contract.
-use Rattle.roots.specs.Inner.Columns.{wanted}
+use Rattle.code.specs.Inner.Columns.{wanted}
 use Rattle.root_map.proofs.Pointing.{pointed-other, pointed-outside, pointed-in}
 use Rattle.root_map.proofs.point_row.Goals as goal
 

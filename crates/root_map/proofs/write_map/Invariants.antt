@@ -1,5 +1,5 @@
 -- `root_map::write_map` meets its contract.
-use Rattle.roots.specs.Inner.Columns.{wanted}
+use Rattle.code.specs.Inner.Columns.{wanted}
 use Rattle.root_map.proofs.Maps.{Writing}
 use Rattle.root_map.proofs.write_map.Given as goal
 

@@ -6,8 +6,9 @@ use Rattle.word.specs.Put.{put}
 use Rattle.rows.specs.Inner.Row.{listed}
 use Rattle.flow.specs.Function.{safepoint}
 use Rattle.flow.specs.Dataflow.{live_before, live_row}
-use Rattle.roots.specs.View.{view}
-use Rattle.roots.specs.Inner.Columns.{seen, cell, Outside}
+use Rattle.code.specs.View.{view}
+use Rattle.code.specs.Inner.Columns.{seen}
+use Rattle.liveness.specs.Inner.Scratch.{cell, Outside}
 use Rattle.root_map.specs.Calls.{limits}
 
 -- the row of w words that starts at word a

@@ -1,7 +1,7 @@
 -- What the inner functions ensure of a plan: `Columns` at the function that it asks about.
 use Rattle.std.specs.Prelude.{Bool, List, ℕ}
-use Rattle.roots.specs.Inner.Columns.{wanted}
-use Rattle.roots.specs.declared.Plan.{Plan}
+use Rattle.code.specs.Inner.Columns.{wanted}
+use Rattle.code.specs.declared.Plan.{Plan}
 use Rattle.root_map.specs.Inner.Columns.{Standing, Pointed, Counted, Fits, Written}
 
 abbrev pub StandingAt : Plan → (s : List ℕ) (b q : ℕ) → Type 0

@@ -5,7 +5,7 @@ use Rattle.run_door.proofs.Moving.{alloc-data, does-alloc, does-take, does-seal,
 use Rattle.run_door.proofs.do_line.Goals as goal
 
 pub do_alloc-requires : goal.do_alloc-requires
-do_alloc-requires c = record { can_run = c.requires.can_run; data_there = alloc-data c.args.s.now c.args.line _ c.requires.data_in c.in-Alloc.is }
+do_alloc-requires c = record { roomy = c.requires.roomy; data_there = alloc-data c.args.s.now c.args.line _ c.requires.data_in c.in-Alloc.is }
 
 pub returns-in-Alloc : goal.returns-in-Alloc
 returns-in-Alloc c = record { loans = c.do_alloc.ensures.loans; does = does-alloc (lies c.args.lent.now) c.args.s.now c.args.line _ _ _ c.in-Alloc.is c.do_alloc.ensures.does }

@@ -11,7 +11,7 @@ pub read_line-requires : goal.read_line-requires
 read_line-requires c = c.loop-at.invariant.0.inside
 
 pub do_line-requires : goal.do_line-requires
-do_line-requires c = record { can_run = (run-can _ _ _ _ _ c.loop-at.invariant.0).room; data_in = (reads-of c.read_line.result c.read_line.ensures c.in-Some.is).there }
+do_line-requires c = record { roomy = (run-can _ _ _ _ _ c.loop-at.invariant.0).room; data_in = (reads-of c.read_line.result c.read_line.ensures c.in-Some.is).there }
 
 pub loop-at-smaller : goal.loop-at-smaller
 loop-at-smaller c = let w = (stepped _ _ _ c.loop-at-test.true _ _ (reads-of c.read_line.result c.read_line.ensures c.in-Some.is) c.do_line.ensures.does) in omega (arith, w.on, w.inside)
@@ -28,7 +28,7 @@ returns-in_err-do_line c =
     rw (p.1, p.2) (record { loans = then-same c.loop-at.invariant.1.0 c.in_err-do_line.ensures.loans; tells = run-stop _ _ _ _ _ c.loop-at.invariant.0 _ _ _ (stepped _ _ _ c.loop-at-test.true _ _ (reads-of c.read_line.result c.read_line.ensures c.in-Some.is) c.in_err-do_line.ensures.does) sizes.0 sizes.1 refl })
 
 pub returns-in_default : goal.returns-in_default
-returns-in_default c = record { loans = c.loop-at.invariant.1.0; tells = run-stop _ _ _ _ _ c.loop-at.invariant.0 _ _ _ (bad-step _ _ _ _ c.loop-at-test.true (run-can _ _ _ _ _ c.loop-at.invariant.0) c.read_line.result c.read_line.ensures c.in_default.is) refl refl refl }
+returns-in_default c = record { loans = c.loop-at.invariant.1.0; tells = run-stop _ _ _ _ _ c.loop-at.invariant.0 _ _ _ (bad-step _ _ _ c.loop-at-test.true (run-can _ _ _ _ _ c.loop-at.invariant.0).formed c.read_line.result c.read_line.ensures c.in_default.is) refl refl refl }
 
 pub returns : goal.returns
 returns c = record { loans = c.loop-at.invariant.1.0; tells = run_end _ _ _ _ _ c.loop-at.invariant.0 c.loop-at-test.false }

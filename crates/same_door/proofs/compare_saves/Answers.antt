@@ -1,29 +1,30 @@
 -- `same_door::compare_saves` meets its contract.
 use Rattle.std.proofs.Common.{◌≡◌, ap, sym, ◌∙◌}
-use mathlib.Core.Path.{subst}
 use Rattle.std.proofs.lemmas.Result.{err_from_is_err_and, IfOk-at_ok}
 use Rattle.heap.specs.Lent.{Lent, view}
 use Rattle.heap.specs.Inner.Seen.{seen}
-use Rattle.ty.specs.View.{lent}
 use Rattle.door.specs.Inner.Entered.{entry_of}
 use Rattle.saves.specs.Saves.{ordering}
-use Rattle.compare_heaps.specs.Inner.Compared.{compared_by, CanMark}
+use Rattle.compare_heaps.specs.Inner.Compared.{CanMark}
 use Rattle.same_door.specs.Inner.Given.{memory_of, words_in, given_save}
 use Rattle.same_door.proofs.Telling.{can-first, can-second, compares-refused, compares-found}
-use Rattle.same_door.proofs.compare_saves.Goals as goal
 use Rattle.same_door.proofs.compare_saves.Goals.{In_ok-views}
+use Rattle.ty.specs.Inner.Lent.{lent}
+use Rattle.same_door.specs.Inner.Numbers.{found_by}
+use mathlib.Core.Path.{subst}
+use Rattle.same_door.proofs.compare_saves.Goals as goal
 
 -- what was lent is what is shown
 both : (c : In_ok-views) → (seen c.in_ok-views.views.0 ≡ memory_of c.args.given) × (seen c.in_ok-views.views.1 ≡ memory_of c.args.other)
 both c = IfOk-at_ok (λ v. (seen v.0 ≡ memory_of c.args.given) × (seen v.1 ≡ memory_of c.args.other)) c.in_ok-views.was c.admit.ensures.shows
 
-pub order_heaps-found-requires-clause-can_mark : goal.order_heaps-found-requires-clause-can_mark
-order_heaps-found-requires-clause-can_mark c =
-    subst (λ (l : Lent). CanMark l c.admit.new.marks c.admit.new.work) (sym (both (goal.at.order_heaps-found-requires-clause-can_mark c).In_ok-views).0) (can-first (words_in c.args.table.now) (given_save c.args.given c.args.marks.now c.args.work.now) (given_save c.args.other c.args.other_marks.now c.args.other_work.now) c.admit.ensures.entered (ap entry_of c.in_ok-views.was))
+pub order_saves-requires-clause-can_mark : goal.order_saves-requires-clause-can_mark
+order_saves-requires-clause-can_mark c =
+    subst (λ (l : Lent). CanMark l c.admit.new.marks c.admit.new.work) (sym (both (goal.at.order_saves-requires-clause-can_mark c).In_ok-views).0) (can-first (words_in c.args.table.now) (given_save c.args.given c.args.marks.now c.args.work.now) (given_save c.args.other c.args.other_marks.now c.args.other_work.now) c.admit.ensures.entered (ap entry_of c.in_ok-views.was))
 
-pub order_heaps-found-requires-clause-can_mark_2 : goal.order_heaps-found-requires-clause-can_mark_2
-order_heaps-found-requires-clause-can_mark_2 c =
-    subst (λ (l : Lent). CanMark l c.admit.new.other_marks c.admit.new.other_work) (sym (both (goal.at.order_heaps-found-requires-clause-can_mark_2 c).In_ok-views).1) (can-second (words_in c.args.table.now) (given_save c.args.given c.args.marks.now c.args.work.now) (given_save c.args.other c.args.other_marks.now c.args.other_work.now) c.admit.ensures.entered (ap entry_of c.in_ok-views.was))
+pub order_saves-requires-clause-can_mark_2 : goal.order_saves-requires-clause-can_mark_2
+order_saves-requires-clause-can_mark_2 c =
+    subst (λ (l : Lent). CanMark l c.admit.new.other_marks c.admit.new.other_work) (sym (both (goal.at.order_saves-requires-clause-can_mark_2 c).In_ok-views).1) (can-second (words_in c.args.table.now) (given_save c.args.given c.args.marks.now c.args.work.now) (given_save c.args.other c.args.other_marks.now c.args.other_work.now) c.admit.ensures.entered (ap entry_of c.in_ok-views.was))
 
 pub returns-in_err-views : goal.returns-in_err-views
 returns-in_err-views c =
@@ -34,7 +35,5 @@ pub returns : goal.returns
 returns c =
     let b = both (goal.at.returns c).In_ok-views in
     compares-found (words_in c.args.table.now) (given_save c.args.given c.args.marks.now c.args.work.now) (given_save c.args.other c.args.other_marks.now c.args.other_work.now) c.admit.ensures.entered (ap entry_of c.in_ok-views.was) _
-    (c.order_heaps-found.ensures ∙ (λ j. compared_by (ordering (lent c.args.table.now) (view (b.0 j)) (view (b.1 j)) c.args.given.roots.now c.args.other.roots.now)))
-    c.order_heaps-found.new.marks c.order_heaps-found.new.work c.order_heaps-found.new.other_marks c.order_heaps-found.new.other_work
-    c.order_heaps-found.auto.marks c.order_heaps-found.auto.work c.order_heaps-found.auto.other_marks c.order_heaps-found.auto.other_work
-    _ _ _ _ (c.fill.ensures.after (λ y e. e)) (c.fill-2.ensures.after (λ y e. e)) (c.fill-3.ensures.after (λ y e. e)) (c.fill-4.ensures.after (λ y e. e)) _ c.ok_or.ensures.value
+    (c.order_saves.ensures.found ∙ (λ j. found_by (ordering (lent c.args.table.now) (view (b.0 j)) (view (b.1 j)) c.args.given.roots.now c.args.other.roots.now)))
+    _ _ _ _ c.order_saves.ensures.cleared

@@ -1,10 +1,18 @@
 -- What a comparison tells: a number that is read off the order, or why there is none.
 use Rattle.std.specs.Prelude.{ℕ, List, ◌≡◌, Result, Ok, Err}
+use Rattle.std.specs.Option.{ok_or}
 use Rattle.std.specs.declared.cmp.Ordering.{Ordering}
+use Rattle.word.specs.Result as word
 use Rattle.refusal.specs.Told.{Reply, told}
 use Rattle.refusal.specs.declared.Refusal.{Refusal}
+use Rattle.refusal.specs.declared.Refusal.TheVariants.{Untraceable}
 use Rattle.door.specs.HeapCalls.{asked_of}
+use Rattle.compare_heaps.specs.Inner.Compared.{compared_by}
 use Rattle.saves.specs.Saves.{Words, Save, comparing}
+
+-- the order, or 13
+abbrev pub found_by : word.Result Ordering → Result Ordering Refusal
+found_by o = ok_or (compared_by o) Untraceable
 
 abbrev pub reply_by : (Ordering → ℕ) → Result Ordering Refusal → Reply
 reply_by number (Ok o) = Ok (number o, 0)

@@ -1,5 +1,4 @@
 -- `sweep::compact` meets its contract. The invariant: what is done and what is left after `i` slots.
-use Prim.Native.Nat.{◌-◌}
 use Rattle.sweep.proofs.Compacting.{Packing}
 use Rattle.sweep.proofs.compact.Given as goal
 

@@ -1,5 +1,4 @@
 -- `sweep::live_size` meets its contract. The invariant: `sum` counts the first `i` slots, and `from` is where the next starts.
-use Prim.Native.Nat.{◌-◌}
 use Rattle.sweep.proofs.Sizing.{Sizing}
 use Rattle.sweep.proofs.live_size.Given as goal
 

@@ -1,5 +1,4 @@
 -- `sweep::release_unmarked` meets its contract. The invariant: the columns are those of the heap once the first `i` slots are looked at.
-use Prim.Native.Nat.{◌-◌}
 use Rattle.sweep.proofs.Releasing.{Releasing}
 use Rattle.sweep.proofs.release_unmarked.Given as goal
 

@@ -2,7 +2,6 @@
 use mathlib.Core.Path.{◌≡◌, sym, subst}
 use mathlib.Core.List.{[], map}
 use lib.ListN.{take}
-use Rattle.ty.specs.View.{lent}
 use Rattle.mark.specs.Inner.Graph.{graph_in}
 use Rattle.mark.specs.Inner.Objects.{Laid}
 use Rattle.mark.specs.Inner.Scratch.{high, Clear}
@@ -10,6 +9,7 @@ use Rattle.mark.specs.Inner.Told.{starts_of}
 use Rattle.wanted.specs.Search.{searched}
 use Rattle.wanted_door.specs.Inner.Picking.{notes_if, Inside}
 use Rattle.wanted_door.proofs.Naming.{search-part, search-long, search-clear, can-name, none_found, roots-found}
+use Rattle.ty.specs.Inner.Lent.{lent}
 use Rattle.wanted_door.proofs.list_roots.Goals as goal
 
 pub slice_bounds-pick_roots-end : goal.slice_bounds-pick_roots-end

@@ -3,8 +3,8 @@ use mathlib.Core.Path.{sym, subst}
 use mathlib.Core.Bool.{true, false}
 use Prim.Native.Nat.{◌≤◌}
 use lib.ListN.{length}
-use Rattle.roots.specs.Calls.{Lent, need}
-use Rattle.roots.specs.Inner.Plans.{planned}
+use Rattle.code.specs.Lent.{Lent, need}
+use Rattle.code.specs.Inner.Plans.{planned}
 use Rattle.roots.proofs.Asking.{need-rows}
 use Rattle.collect.specs.Inner.Safepoint.{RootRow}
 use Rattle.collect.proofs.RootRows.{look-none, plan-found}

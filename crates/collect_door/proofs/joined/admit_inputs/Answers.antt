@@ -1,22 +1,10 @@
 -- `collect_door::joined::admit_inputs` meets its contract.
-use Rattle.roots.specs.Inner.Plans.{lent as lent_code}
-use Rattle.collect_door.proofs.Entries.{bad-table, bad-code, bad-values, bad-pins, bad-addresses, good-inputs}
+use Rattle.code.specs.Inner.Plans.{lent as lent_code}
+use Rattle.collect_door.proofs.Entries.{bad-table, good-table}
 use Rattle.collect_door.proofs.joined.admit_inputs.Goals as goal
 
 pub returns-then-not-check_table : goal.returns-then-not-check_table
 returns-then-not-check_table c = bad-table c.args.table.now.types.now c.args.table.now.fields.now c.args.table.now.consts.now c.args.table.now.bytes.now (lent_code c.args.code.now) c.args.values.now c.args.pins.now c.args.addresses.now _ c.check_table.ensures c.if-not-check_table.true
 
-pub returns-then-not-check_function : goal.returns-then-not-check_function
-returns-then-not-check_function c = bad-code c.args.table.now.types.now c.args.table.now.fields.now c.args.table.now.consts.now c.args.table.now.bytes.now (lent_code c.args.code.now) c.args.values.now c.args.pins.now c.args.addresses.now _ c.check_table.ensures c.if-not-check_table.false _ c.check_function.ensures c.if-not-check_function.true
-
-pub returns-then-values-code : goal.returns-then-values-code
-returns-then-values-code c = bad-values c.args.table.now.types.now c.args.table.now.fields.now c.args.table.now.consts.now c.args.table.now.bytes.now (lent_code c.args.code.now) c.args.values.now c.args.pins.now c.args.addresses.now _ c.check_table.ensures c.if-not-check_table.false _ c.check_function.ensures c.if-not-check_function.false c.if-values-code.true
-
-pub returns-then-not-rise : goal.returns-then-not-rise
-returns-then-not-rise c = bad-pins c.args.table.now.types.now c.args.table.now.fields.now c.args.table.now.consts.now c.args.table.now.bytes.now (lent_code c.args.code.now) c.args.values.now c.args.pins.now c.args.addresses.now _ c.check_table.ensures c.if-not-check_table.false _ c.check_function.ensures c.if-not-check_function.false c.if-values-code.false _ c.rise.ensures c.if-not-rise.true
-
-pub returns-then-not-rise-2 : goal.returns-then-not-rise-2
-returns-then-not-rise-2 c = bad-addresses c.args.table.now.types.now c.args.table.now.fields.now c.args.table.now.consts.now c.args.table.now.bytes.now (lent_code c.args.code.now) c.args.values.now c.args.pins.now c.args.addresses.now _ c.check_table.ensures c.if-not-check_table.false _ c.check_function.ensures c.if-not-check_function.false c.if-values-code.false _ c.rise.ensures c.if-not-rise.false _ c.rise-2.ensures c.if-not-rise-2.true
-
 pub returns : goal.returns
-returns c = good-inputs c.args.table.now.types.now c.args.table.now.fields.now c.args.table.now.consts.now c.args.table.now.bytes.now (lent_code c.args.code.now) c.args.values.now c.args.pins.now c.args.addresses.now _ c.check_table.ensures c.if-not-check_table.false _ c.check_function.ensures c.if-not-check_function.false c.if-values-code.false _ c.rise.ensures c.if-not-rise.false _ c.rise-2.ensures c.if-not-rise-2.false
+returns c = good-table c.args.table.now.types.now c.args.table.now.fields.now c.args.table.now.consts.now c.args.table.now.bytes.now (lent_code c.args.code.now) c.args.values.now c.args.pins.now c.args.addresses.now _ c.check_table.ensures c.if-not-check_table.false c.admit_code.ensures

@@ -1,7 +1,7 @@
 -- `held_collect::joined::admit_joined` meets its contract.
 use Rattle.std.proofs.Common.{refl, [], ◌∷◌}
-use Rattle.roots.specs.Inner.Plans.{lent as lent_code}
-use Rattle.collect_door.proofs.Entries.{by-leb, inputs-entered}
+use Rattle.code.specs.Inner.Plans.{lent as lent_code}
+use Rattle.collect_door.proofs.Entries.{by-leb, code-entered}
 use Rattle.held_collect.proofs.Known.{too-few, too-few-rows, rows-cleared}
 use Rattle.held_collect.proofs.joined.admit_joined.Goals as goal
 
@@ -13,7 +13,7 @@ returns-then-not-rows_fit c = too-few-rows _ _ _ _ c.scratch_fits.ensures c.if-n
 
 pub returns : goal.returns
 returns c =
-    inputs-entered
+    code-entered
     (rows-cleared _ c.scratch_fits.ensures c.if-not-scratch_fits.false _ (by-leb _ _ _ c.rows_fit.ensures) c.if-not-rows_fit.false
     (λ j. c.fill.ensures.after (λ y e. e) j ∷ c.fill-2.ensures.after (λ y e. e) j ∷ c.fill-3.ensures.after (λ y e. e) j ∷ []))
-    c.args.table.now.types.now c.args.table.now.fields.now c.args.table.now.consts.now c.args.table.now.bytes.now (lent_code c.args.code.now) c.args.values.now c.args.pins.now c.args.addresses.now refl _ c.admit_inputs.ensures
+    (lent_code c.args.code.now) c.args.values.now c.args.pins.now c.args.addresses.now refl _ c.admit_code.ensures

@@ -1,6 +1,6 @@
 -- `ty::Table::fields_at` meets its contract.
 use mathlib.Core.Path.{refl}
-use Rattle.ty.specs.View.{fields_of}
+use Rattle.ty.specs.Inner.Rows.{fields_of}
 use Rattle.ty.proofs.Rows.{fields-other}
 use Rattle.ty.proofs.Table.fields_at.Goals as goal
 

@@ -1,0 +1,8 @@
+-- Laws that belong to no one function.
+pub mod Turns
+pub mod Scratch
+pub mod Chaining
+pub mod Growth
+pub mod Steps
+pub mod Passes
+pub mod Builds

@@ -1,0 +1,2 @@
+-- What the inner functions ensure of the scratch.
+pub mod Inner

@@ -1,7 +1,0 @@
--- `roots::chains::chain` meets its contract.
-use Prim.Native.Nat.{◌≤◌}
-use Rattle.roots.specs.Inner.Columns.{Chains}
-use Rattle.roots.proofs.chains.BlockChains.chain.Given as goal
-
-abbrev pub invariant-loop-b : goal.invariant-loop-b
-invariant-loop-b l = (l.b ≤ l.blocks.count) × Chains l.blocks.bounds.now l.word l.blocks.count l.b l.self.heads l.self.links

@@ -1,7 +1,0 @@
--- `roots::check::lists_fit` meets its contract.
-use lib.ListN.{length}
-use Rattle.roots.proofs.Checks.{Upto, Fine}
-use Rattle.roots.proofs.check.lists_fit.Given as goal
-
-abbrev pub invariant-loop-k : goal.invariant-loop-k
-invariant-loop-k l = Upto (Fine l.ends l.refs) (length l.ends) l.k

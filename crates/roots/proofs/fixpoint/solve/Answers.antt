@@ -1,8 +1,0 @@
-use native.Mathlib.Omega.{arith}
-use Prim.Native.Nat.{◌*◌}
-use lib.ListN.{take, length-take}
-use Rattle.rows.proofs.Listing.{listed_le}
-use Rattle.roots.proofs.fixpoint.solve.Goals as goal
-
-pub loop-smaller : goal.loop-smaller
-loop-smaller c = omega (arith, c.pass.ensures.more c.loop-test.true, listed_le 64 (take (c.args.flow.now.blocks.count * (3 * c.args.flow.now.words)) c.pass.new.s), length-take (c.args.flow.now.blocks.count * (3 * c.args.flow.now.words)) c.pass.new.s)

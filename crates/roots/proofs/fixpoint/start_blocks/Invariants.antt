@@ -1,7 +1,0 @@
--- `roots::fixpoint::start_blocks` meets its contract.
-use Rattle.roots.specs.Inner.Columns.{wanted}
-use Rattle.roots.proofs.Builds.{Builds}
-use Rattle.roots.proofs.fixpoint.start_blocks.Given as goal
-
-abbrev pub invariant-loop-b : goal.invariant-loop-b
-invariant-loop-b l = Builds (wanted l.plan.flow.registers.which) l.plan.flow.registers.ends.now l.plan.flow.registers.refs.now l.plan.flow.blocks.bounds.now l.plan.flow.registers.classes.now l.initial.s l.s l.plan.flow.blocks.count l.plan.flow.words l.b

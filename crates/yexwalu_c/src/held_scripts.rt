@@ -1,0 +1,33 @@
+// For C: the calls of held_run.
+ghost use Rattle.std.specs.Prelude.{◌≡◌, true, ◌/◌, length};
+ghost use Rattle.refusal.specs.Told.{nothing};
+ghost use Rattle.heap.specs.WellFormed.{well_formed};
+ghost use Rattle.door.specs.HeapCalls.{zeros};
+ghost use Rattle.script.specs.Script.{run_script};
+ghost use Rattle.run_door.specs.Run.{Roomy};
+ghost use Rattle.held.specs.Held.{in_place, Held};
+
+use refusal::Answer;
+
+#[unsafe(no_mangle)]
+pub extern "C" fn yexwalu_held_run(
+    tag: &mut [u8; 1],
+    numbers: &mut [u64; 4],
+    log: &mut [u32; 16],
+    lengths: &mut [u64; 5],
+    narrow: &mut [u32],
+    wide: &mut [u64],
+    pool: &mut [u8],
+    script: &[u8],
+    room: &mut [u8],
+) -> Answer
+    requires formed { well_formed (in_place tag.old numbers.old log.old lengths.old narrow.old wide.old pool.old) ≡ true }
+    requires roomy { Roomy (length pool.old) (length script.now) (length room.old) }
+    ensures held { Held nothing nothing
+        (in_place tag.old numbers.old log.old lengths.old narrow.old wide.old pool.old)
+        (in_place tag.new numbers.new log.new lengths.new narrow.new wide.new pool.new) result
+        (run_script (length narrow.old / 6) (length pool.old) script.now) }
+    ensures room_after { room.new ≡ zeros room.old }
+{
+    held_run::yexwalu_held_run(tag, numbers, log, lengths, narrow, wide, pool, script, room)
+}
