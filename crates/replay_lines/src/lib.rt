@@ -10,7 +10,7 @@ use replay_code::Function;
 use replay_collections::{Collection, rehearsals};
 use replay_kept::table::{self, Table};
 use replay_kept::{Kept, MOST_POOL, MOST_SLOTS};
-use replay_reads::{pages, traced};
+use replay_reads::{page_questions, trace_questions};
 use std::alloc::{AllocError, Global};
 use std::io;
 
@@ -69,8 +69,8 @@ impl State {
         if let Ok(change) = name.parse::<Change>() {
             return replay_changes::answer(rt, change, line, &mut self.kept);
         }
-        if let Ok(question) = name.parse::<pages::Question>() {
-            return pages::answer(rt, question, line, &self.kept);
+        if let Ok(question) = name.parse::<page_questions::Question>() {
+            return page_questions::answer(rt, question, line, &self.kept);
         }
         if let Ok(question) = name.parse::<replay_calls::Question>() {
             return replay_calls::answer(rt, question, line, &self.kept);
@@ -85,8 +85,8 @@ impl State {
                 &self.code,
             );
         }
-        if let Ok(question) = name.parse::<traced::Question>() {
-            return traced::answer(rt, question, line, &self.kept, &self.table);
+        if let Ok(question) = name.parse::<trace_questions::Question>() {
+            return trace_questions::answer(rt, question, line, &self.kept, &self.table);
         }
         Err(Fault::Bad)
     }
