@@ -65,6 +65,7 @@ impl Figures {
     /// assert_eq!(Figures::default().line(2, Refusal::Page.number()), b"2,17,0,0,0,0,0\n");
     /// # Ok::<(), Refusal>(())
     /// ```
+    #[must_use]
     pub fn line(self, page: u64, answer: u64) -> Vec<u8> {
         let mut out = [0; LINE];
         // SAFETY: the output is as long as the call's parameter, and borrowed mutably.

@@ -134,6 +134,7 @@ impl Function {
     /// assert!(f.live_refs(Wanted::All)?.is_empty());
     /// # Ok::<(), Refusal>(())
     /// ```
+    #[must_use]
     pub fn new() -> Function {
         Function::default()
     }
@@ -161,6 +162,7 @@ impl Function {
     /// assert_eq!((start, f.position()), (0, 1));
     /// f.block(start, f.position());
     /// ```
+    #[must_use]
     pub fn position(&self) -> u32 {
         number(self.kinds.len())
     }
@@ -217,6 +219,7 @@ impl Function {
     /// // five rows, of two words each
     /// assert_eq!(f.scratch_words(), 10);
     /// ```
+    #[must_use]
     pub fn scratch_words(&self) -> usize {
         (3 * (self.blocks.len() / 2) + 2).saturating_mul(self.classes.len().div_ceil(64))
     }

@@ -24,21 +24,25 @@ impl Handle {
     pub const NULL: Handle = Handle(0);
 
     /// Is it the null handle?
+    #[must_use]
     pub fn is_null(self) -> bool {
         self.0 == 0
     }
 
     /// The tag of its heap.
+    #[must_use]
     pub fn tag(self) -> u8 {
         (self.0 >> 56) as u8
     }
 
     /// The index of its slot.
+    #[must_use]
     pub fn index(self) -> u32 {
         (self.0 >> 32) as u32 & 0xff_ffff
     }
 
     /// The generation of the slot when the handle was made.
+    #[must_use]
     pub fn generation(self) -> u32 {
         self.0 as u32
     }

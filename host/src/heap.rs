@@ -180,7 +180,7 @@ pub struct Memory {
 
 macro_rules! runs {
     ($($(#[$doc:meta])* $name:ident, $list:ident, $number:ty, $run:expr $(, $of:expr)?;)*) => {
-        $($(#[$doc])* pub fn $name(&self) -> &[$number] {
+        $($(#[$doc])* #[must_use] pub fn $name(&self) -> &[$number] {
             let from = $run * self.slots();
             $($of)? (self.$list.get(from..from + self.slots()).unwrap_or(&[]))
         })*
@@ -197,6 +197,7 @@ impl Memory {
     /// assert_eq!(none, Memory::zeros(0, 0));
     /// assert_eq!(Heap::new_in(1, none, Scratch::zeros(64)).map_err(|e| e.0), Err(Refusal::BrokenHeap));
     /// ```
+    #[must_use]
     pub fn zeros(slots: usize, pool: usize) -> Memory {
         let good = slots <= Heap::MAX_SLOTS && pool <= Heap::MAX_POOL;
         let (slots, pool) = if good { (slots, pool) } else { (0, 0) };
@@ -208,6 +209,7 @@ impl Memory {
     }
 
     /// The number of slots that it has room for, S.
+    #[must_use]
     pub fn slots(&self) -> usize {
         self.narrow.len() / 6
     }
@@ -254,6 +256,7 @@ pub struct Scratch {
 
 impl Scratch {
     /// Scratch for so many slots. More than a heap can have ([`Heap::MAX_SLOTS`]) gives as much as the largest heap needs.
+    #[must_use]
     pub fn zeros(slots: usize) -> Scratch {
         let slots = slots.min(Heap::MAX_SLOTS);
         Scratch {
@@ -556,6 +559,7 @@ impl Heap {
     /// assert_eq!(Heap::from_parts(header, memory, scratch).live(), Err(Refusal::BrokenHeap));
     /// # Ok::<(), Refusal>(())
     /// ```
+    #[must_use]
     pub fn from_parts(header: Header, memory: Memory, scratch: Scratch) -> Heap {
         Heap {
             header,
@@ -573,6 +577,7 @@ impl Heap {
     /// assert_eq!((header.tag, memory.slots(), scratch.work.len()), (1, 64, 64));
     /// # Ok::<(), Refusal>(())
     /// ```
+    #[must_use]
     pub fn into_parts(self) -> (Header, Memory, Scratch) {
         (self.header, self.memory, self.scratch.into_inner())
     }
@@ -594,6 +599,7 @@ impl Heap {
     /// let mut heap = Heap::new(1, 64, 4096).unwrap();
     /// heap.header().slots = 7;
     /// ```
+    #[must_use]
     pub fn header(&self) -> &Header {
         &self.header
     }
@@ -613,6 +619,7 @@ impl Heap {
     /// let mut heap = Heap::new(1, 64, 4096).unwrap();
     /// heap.memory.pool.clear();
     /// ```
+    #[must_use]
     pub fn memory(&self) -> &Memory {
         &self.memory
     }
@@ -624,6 +631,7 @@ impl Heap {
     /// assert_eq!(Heap::new(1, 64, 4096)?.scratch(), Scratch::zeros(64));
     /// # Ok::<(), Refusal>(())
     /// ```
+    #[must_use]
     pub fn scratch(&self) -> Scratch {
         self.scratch.borrow().clone()
     }

@@ -48,6 +48,7 @@ impl fmt::Display for Place {
 /// assert_eq!(page_stops(&page).unwrap().to_string(), "line 2, column 3");
 /// # Ok::<(), Refusal>(())
 /// ```
+#[must_use]
 pub fn page_stops(text: &[u8]) -> Option<Place> {
     let mut scan = Scan { text, at: 0 };
     let whole = scan.page().is_some() && scan.at == text.len();

@@ -85,16 +85,19 @@ const ALL: &[(Refusal, &str)] = &[
 
 impl Refusal {
     /// The number in document 01's table.
+    #[must_use]
     pub fn number(self) -> u64 {
         self as u64
     }
 
     /// The word in document 01's table.
+    #[must_use]
     pub fn word(self) -> &'static str {
         ALL.iter().find(|row| row.0 == self).expect("every refusal has its row").1
     }
 
     /// The refusal of a number; none for 0, which is success, and for numbers that no call answers.
+    #[must_use]
     pub fn from_number(number: u64) -> Option<Refusal> {
         ALL.iter().map(|row| row.0).find(|r| r.number() == number)
     }

@@ -77,6 +77,7 @@ pub enum Direction {
 /// let bytes = descriptor(&[(7, 0, Direction::Downto)]);
 /// assert_eq!((bytes.len(), bytes[0], bytes[16]), (24, 7, 1));
 /// ```
+#[must_use]
 pub fn descriptor(dimensions: &[(i64, i64, Direction)]) -> Vec<u8> {
     let mut bytes = Vec::new();
     for (left, right, direction) in dimensions {
@@ -145,21 +146,25 @@ pub struct FrameSlot {
 
 impl FrameSlot {
     /// An entry by its numbers, as a run has them.
+    #[must_use]
     pub fn new(offset: u32, kind: u32, ty: TypeId) -> FrameSlot {
         FrameSlot { offset, kind, ty }
     }
 
     /// A handle at this offset.
+    #[must_use]
     pub fn handle(offset: u32) -> FrameSlot {
         FrameSlot { offset, kind: 0, ty: 0 }
     }
 
     /// An address at this offset.
+    #[must_use]
     pub fn address(offset: u32) -> FrameSlot {
         FrameSlot { offset, kind: 1, ty: 0 }
     }
 
     /// A value of this type at this offset.
+    #[must_use]
     pub fn composite(offset: u32, ty: TypeId) -> FrameSlot {
         FrameSlot { offset, kind: 2, ty }
     }
@@ -193,6 +198,7 @@ impl TypeTable {
     /// let table = TypeTable::new();
     /// assert_eq!(table.layout(0, &[]), Err(Refusal::Malformed));
     /// ```
+    #[must_use]
     pub fn new() -> TypeTable {
         TypeTable::default()
     }
@@ -585,6 +591,7 @@ impl TypeTable {
     /// assert_eq!(TypeTable::read_text(&text)?.0, table);
     /// # Ok::<(), Refusal>(())
     /// ```
+    #[must_use]
     pub fn no_names(&self) -> Vec<u8> {
         vec![b'\n'; self.types.len() / 4 + self.fields.len() / 2 + self.consts.len() / 3]
     }

@@ -98,6 +98,7 @@ impl Heap {
 
 impl<'a> View<'a> {
     /// The heap's numbers.
+    #[must_use]
     pub fn header(&self) -> &'a Header {
         self.header
     }
@@ -113,6 +114,7 @@ impl<'a> View<'a> {
     /// assert_eq!(longest.unwrap().bytes(), b"organ");
     /// # Ok::<(), Refusal>(())
     /// ```
+    #[must_use]
     pub fn objects(&self) -> Objects<'a> {
         Objects { view: *self, next: 0 }
     }
@@ -172,21 +174,25 @@ impl<'a> View<'a> {
     }
 
     /// The dead slots that may be given out; the last one is next.
+    #[must_use]
     pub fn free(&self) -> &'a [Slot] {
         self.free
     }
 
     /// The dead slots that wait for `Heap::recycle`.
+    #[must_use]
     pub fn quarantine(&self) -> &'a [Slot] {
         self.quarantine
     }
 
     /// The dead slots that are given out no more.
+    #[must_use]
     pub fn retired(&self) -> &'a [Slot] {
         self.retired
     }
 
     /// The handles that were sealed, in slot order.
+    #[must_use]
     pub fn sealed(&self) -> &'a [Handle] {
         self.sealed
     }
@@ -263,36 +269,43 @@ pub struct ObjectRef<'a> {
 
 impl<'a> ObjectRef<'a> {
     /// Its slot.
+    #[must_use]
     pub fn slot(&self) -> Slot {
         self.slot
     }
 
     /// The handle that leads to it.
+    #[must_use]
     pub fn handle(&self) -> Handle {
         Handle(u64::from(self.tag) << 56 | u64::from(self.slot) << 32 | u64::from(self.stamp.generation))
     }
 
     /// Its kind.
+    #[must_use]
     pub fn kind(&self) -> Kind {
         self.kind
     }
 
     /// Its slot's generation and its write count.
+    #[must_use]
     pub fn stamp(&self) -> Stamp {
         self.stamp
     }
 
     /// All its bytes, those before the start too.
+    #[must_use]
     pub fn bytes(&self) -> &'a [u8] {
         self.bytes
     }
 
     /// From which of its bytes on it is visible. Any number: beyond the bytes nothing is.
+    #[must_use]
     pub fn start(&self) -> u64 {
         self.start
     }
 
     /// What is visible of it; none where the start lies beyond its bytes.
+    #[must_use]
     pub fn data(&self) -> Option<&'a [u8]> {
         self.bytes.get(usize::try_from(self.start).ok()?..)
     }
