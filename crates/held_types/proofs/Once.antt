@@ -14,7 +14,6 @@ use Rattle.refusal.proofs.Numbers.{told-once}
 use Rattle.ty.specs.Types.{type_at}
 use Rattle.layout.specs.Layout.{Lay, layout_of}
 use Rattle.layout.specs.Offsets.{Values, fields_of, listed_in, layout_call}
-use Rattle.held_types.specs.Laid.{laid}
 use Rattle.held_types.specs.declared.Laying.{Laying}
 use Rattle.held_types.specs.Once.{LayoutNumbered, LaidZero, LaidOnce}
 
