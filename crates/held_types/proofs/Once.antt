@@ -3,9 +3,6 @@ use mathlib.Core.Path.{◌≡◌, refl, sym, ap}
 use mathlib.Core.Bool.{Bool, true, false}
 use mathlib.Core.Logic.{◌≢◌}
 use Prim.Native.Nat.{ℕ}
-use native.Mathlib.Omega.{arith}
-use lib.Dec.{leb}
-use lib.ListN.{length}
 use Rattle.std.specs.Prelude.{Ok, Err}
 use Rattle.word.specs.Result.{Result, ok, refused}
 use Rattle.refusal.specs.Told.{number_of}
@@ -13,9 +10,11 @@ use Rattle.refusal.proofs.Numbers.{never-0}
 use Rattle.ty.specs.Types.{type_at}
 use Rattle.layout.specs.Layout.{Lay, layout_of}
 use Rattle.layout.specs.Offsets.{Values, fields_of, listed_in, layout_call}
-use Rattle.held_types.specs.Laid.{laid}
 use Rattle.held_types.specs.declared.Laying.{Laying}
 use Rattle.held_types.specs.Once.{LayoutNumbered, LaidZero, LaidOnce}
+use native.Mathlib.Omega.{arith}
+use lib.Dec.{leb}
+use lib.ListN.{length}
 
 listed-numbered : (l : Lay) (k places : ℕ) → listed_in l k places ≢ refused 0
 listed-numbered (Err why) k places e = never-0 why (let z : number_of why ≡ 0 = cc in z)

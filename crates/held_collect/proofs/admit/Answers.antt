@@ -1,5 +1,5 @@
 -- `held_collect::admit` meets its contract.
-use Rattle.std.proofs.Common.{refl, [], ◌∷◌}
+use Rattle.std.proofs.Common.{[], ◌∷◌}
 use Rattle.held_collect.proofs.Known.{too-little, no_pins, pins-rise}
 use Rattle.held_collect.proofs.admit.Goals as goal
 

@@ -1,5 +1,5 @@
 -- `held_saves::admit` meets its contract.
-use Rattle.std.proofs.Common.{refl, [], ◌∷◌}
+use Rattle.std.proofs.Common.{[], ◌∷◌}
 use Rattle.held_saves.proofs.Comparing.{first-short, second-short, both-long}
 use Rattle.held_saves.proofs.admit.Goals as goal
 
