@@ -99,7 +99,7 @@ pub fn no_page() -> Result<Figures, u64>
 }
 
 // The memory that a page is read into, and the scratch of the call. What it holds from page to page means nothing.
-// Kept: a library has memory of fixed size, a rule of the project.
+// Kept: arrays of fixed size, so that no step can fail for want of memory.
 #[derive(Drop)]
 pub struct Memory {
     pub narrow: [u32; 24576],

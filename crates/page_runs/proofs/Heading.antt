@@ -11,21 +11,17 @@ use Rattle.word.proofs.Bools.{and_both}
 use Rattle.word.specs.Lists.{all}
 use Rattle.word.specs.Put.{put}
 use Rattle.word.proofs.PutLaws.{take_put}
-use Rattle.text.specs.Text.{give, ascii, comma, digit_of, read_literal, read_field}
+use Rattle.text.specs.Text.{give, ascii, comma, read_literal, read_field}
 use Rattle.text.specs.Format.{number}
 use Rattle.text.specs.Inner.Answer.{value_answer, literal_answer}
 use Rattle.std.specs.Prelude.{◌↔◌, Option, Some, None}
-use Rattle.text.proofs.Laws.{literal-back, number-right}
+use Rattle.text.proofs.Laws.{literal-back, number-right, no-comma}
 use Rattle.text.proofs.Getting.{answer-none, field_found, literal-found, literal-lost}
 use Rattle.script.specs.Script.{run_script}
 use Rattle.page_runs.specs.Inner.Long.{Open, head_of, read_head, DataFrom, HeadFound, is_hex, AllHex, Shortens}
 use Rattle.page_runs.proofs.Long.{head-short, bad-head, bad-data, less-alike}
 
 -- ---- the beginning of the line
-
-no-comma : digit_of comma ≡ none
-unfolding digit_of
-no-comma = refl
 
 -- what is handed on by `?`
 none-there : (s : List ℕ) {out : Option ℕ} → out ≡ None → read_head s ≡ none → HeadFound s out

@@ -12,9 +12,9 @@ use borrow.Author.Tests.{ne_eqb}
 use Rattle.std.specs.Prelude.{if◌then◌else◌}
 use Rattle.word.specs.Lists.{all}
 use Rattle.word.proofs.Bools.{and_both}
-use Rattle.text.specs.Text.{give, ◌>>=◌, ascii, newline, comma, decimal, digits, line, digit_of, hex_digit, hex_digit_of, byte_of, hex, Bytes, read_hex}
+use Rattle.text.specs.Text.{give, ◌>>=◌, ascii, newline, comma, decimal, digits, line, hex_digit, hex_digit_of, byte_of, hex, Bytes, read_hex}
 use Rattle.text.specs.Format.{All, number, bytes_line, pair}
-use Rattle.text.proofs.Laws.{none-not-some, decimal-length, byte-forth, hex-digit-above, hex-digit-back, literal-forth, number-right}
+use Rattle.text.proofs.Laws.{none-not-some, decimal-length, byte-forth, hex-digit-above, hex-digit-back, literal-forth, number-right, no-comma}
 use Rattle.heap.specs.State.{State}
 use Rattle.heap.specs.Calls.{Changed, refuse}
 use Rattle.heap_calls.proofs.Allocating.{alloc-none}
@@ -23,10 +23,6 @@ use Rattle.script.specs.Script.{Call, alloc, take as takes, seal, recycle, Withi
 use Rattle.script.proofs.Reading.{call_back}
 use Rattle.script.proofs.Scripts.{run_call, run-bad}
 use Rattle.page_runs.specs.Inner.Long.{Open, head_of, read_head, DataFrom, is_hex, Bad, Alike}
-
-no-comma : digit_of comma ≡ none
-unfolding digit_of
-no-comma = refl
 
 -- ---- hexadecimal digits
 

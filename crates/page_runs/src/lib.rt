@@ -128,7 +128,7 @@ fn put_number(out: &mut [u8; 14592], number: u64) -> usize
 
 impl Running {
     // A new heap, and a run at its start.
-    // Kept: a library has memory of fixed size, a rule of the project.
+    // Kept: arrays of fixed size, so that no step can fail for want of memory.
     pub fn begin() -> Running
         ensures { Begun result.run (lies result) }
     {

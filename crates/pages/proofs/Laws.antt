@@ -7,23 +7,15 @@ use mathlib.Core.Path.{◌≡◌, refl, sym, ap, ap₂, subst, ◌∙◌}
 use mathlib.Core.Logic.{◌↔◌}
 use native.Mathlib.Omega.{arith}
 use lib.ListN.{length, length-map}
-use Rattle.text.specs.Text.{give, ◌>>=◌, ascii, line, newline, comma, Bytes, digit_of, read_literal}
+use Rattle.text.specs.Text.{give, ◌>>=◌, ascii, line, newline, comma, Bytes, read_literal}
 use Rattle.text.specs.Format.{Right, number, bytes_line, after_literal, either, always, pair, times, mapped, read_all, All}
-use Rattle.text.proofs.Laws.{none-not-some, bind-some, some_inj, number-right, bytes-line-right, after-literal-right, Any, Apart, either-right, always-right, pair-right, times-right, mapped-where, mapped-right, injective}
+use Rattle.text.proofs.Laws.{none-not-some, bind-some, some_inj, number-right, bytes-line-right, after-literal-right, Any, Apart, either-right, always-right, pair-right, times-right, mapped-where, mapped-right, injective, no-comma, no-newline}
 use Rattle.heap.specs.State.{Slot, State, slot_at, worn}
 use Rattle.std.specs.Prelude.{if◌then◌else◌}
 use Rattle.word.specs.Lists.{filter}
 use Rattle.planes.proofs.Laws.{bytes-planes, bytes-restored, restored-planes, planes-restored}
 use Rattle.pages.specs.Form.{Form, form_of, written, writes_width, heap_front, retired_too, no_retired, heap_names, slot_front, wide_writes, narrow_writes, planes_name, data_name, slot_names, slot_named, names, free_name, quarantine_name, sealed_name, retired_name}
 use Rattle.pages.specs.Page.{slot_line, value_line, numbers_line, heap_line, retired_part, page_text, SlotWithin, RetiredWithin, Within, Unsaved, Fields, slot_of, fields_of, slot_format, with_bytes, in_column, out_of_column, slots_format, Counts, Head, sealed_end, retired_count, head_format, retired_format, Body, body_format, Parts, page_format, state_of, read_of, counts_of, head_of, body_of, saved, whole, read_page, moved}
-
-no-comma : digit_of comma ≡ none
-unfolding digit_of
-no-comma = refl
-
-no-newline : digit_of newline ≡ none
-unfolding digit_of
-no-newline = refl
 
 num : (width : ℕ) → Right (number width comma) (λ n. n < 2 ^ width)
 num width = number-right width comma no-comma

@@ -1,16 +1,23 @@
-// A script of calls as text, for the program `replay`: the fields of a line. Nothing here calls the front door.
+// A script of calls as text, for the program `replay`: what a field of a line spells. Nothing here calls the front door.
 #![tactic(auto)]
 
 ghost use Rattle.std.specs.Prelude.{◌≡◌, ℕ, ◌<◌, ◌≢◌, length, slice_index, All, IsNone, IfSome};
 ghost use Rattle.protocol.specs.declared.Fault.TheVariants.{Bad, Io};
 
-pub mod fields;
+pub mod field;
 
 use std::alloc::{AllocError, AllocFailed};
 use std::io;
 
+/// The largest numbers of 8, 32 and 64 bits.
+pub const BYTE: u64 = 255;
+
+pub const HALF: u64 = 4294967295;
+
+pub const WORD: u64 = 18446744073709551615;
+
 /// Why a line is not answered as its command says.
-#[derive(Debug, Drop)]
+#[derive(Drop)]
 pub enum Fault {
     /// It can't be read, or finds no room.
     Bad,
@@ -42,10 +49,10 @@ impl<T: Drop> From<AllocFailed<T>> for Fault {
 }
 
 /// No command has this name.
-#[derive(Clone, Copy, Debug)]
+#[derive(Clone, Copy)]
 pub struct NoCommand;
 
-// Where the first `b` stands.
+/// Where the first `b` stands.
 pub fn find(s: &[u8], b: u8) -> Option<usize>
     ensures none { IsNone result → All (λ x. x ≢ b) s.now }
     ensures within { IfSome result (λ i. i < length s.now) }

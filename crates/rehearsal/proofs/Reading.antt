@@ -7,20 +7,12 @@ use mathlib.Core.Option.{Option, none, some}
 use mathlib.Core.Path.{◌≡◌, refl, ap, ◌∙◌}
 use mathlib.Core.Logic.{◌↔◌}
 use lib.ListN.{length, length-append}
-use Rattle.text.specs.Text.{Reader, give, ◌>>=◌, ascii, comma, newline, line, digit_of, read_literal}
+use Rattle.text.specs.Text.{Reader, give, ◌>>=◌, ascii, comma, newline, line, read_literal}
 use Rattle.text.specs.Format.{Right, All, number, bytes_line, pair}
-use Rattle.text.proofs.Laws.{none-not-some, bind-some, some_inj, literal-forth, literal-back, number-right, pair-right}
+use Rattle.text.proofs.Laws.{none-not-some, bind-some, some_inj, literal-forth, literal-back, number-right, pair-right, no-comma, no-newline}
 use Rattle.script.specs.Script.{alloc_format}
 use Rattle.script.proofs.Reading.{alloc-right}
 use Rattle.rehearsal.specs.Lines.{Line, alloc, store, drop, line_text, lines_text, Within, store_format, read_alloc, read_store, read_drop, named, read_line, read_most, read_lines, is_read, is_text}
-
-no-comma : digit_of comma ≡ none
-unfolding digit_of
-no-comma = refl
-
-no-newline : digit_of newline ≡ none
-unfolding digit_of
-no-newline = refl
 
 abbrev Fields : Type 0
 Fields = ℕ × (ℕ × List ℕ)

@@ -7,10 +7,11 @@ use mathlib.Core.Option as maybe
 use mathlib.Core.Option.{none}
 use mathlib.Core.Path.{◌≡◌, refl, sym, ◌∙◌, subst}
 use lib.ListN.{length, drop, length-drop}
-use Rattle.text.specs.Text.{give, ascii, comma, newline, digit_of, read_literal, read_field}
+use Rattle.text.specs.Text.{give, ascii, comma, read_literal, read_field}
 use Rattle.text.specs.Format.{number, pair}
 use Rattle.text.specs.Inner.Answer.{value_answer, literal_answer}
 use Rattle.std.specs.Prelude.{Option, Some, None}
+use Rattle.text.proofs.Laws.{no-comma, no-newline}
 use Rattle.text.proofs.Getting.{answer-none, field_found, literal-found, literal-lost}
 use Rattle.script.specs.Script.{alloc_format}
 use Rattle.script.specs.Inner.Found.{AllocReads}
@@ -20,14 +21,6 @@ use Rattle.rehearsal.proofs.Reading.{line-shorter, text-nothing, text-bad, text-
 use Rattle.rehearsal_lines.specs.Inner.Found.{step_in, Reads, LineRead}
 use Rattle.rehearsal_lines.specs.declared.Line.{Line}
 use Rattle.rehearsal_lines.specs.declared.Line.TheVariants.{Alloc, Store, Drop}
-
-no-comma : digit_of comma ≡ none
-unfolding digit_of
-no-comma = refl
-
-no-newline : digit_of newline ≡ none
-unfolding digit_of
-no-newline = refl
 
 -- ---- `alloc`: the line of its fields
 

@@ -2,7 +2,7 @@
 #![tactic(auto)]
 
 use answers::{Hex, List, front, put_answer, put_told};
-use protocol::fields::Fields;
+use fields::Fields;
 use protocol::{Fault, NoCommand};
 use refusal::Answer;
 use replay_kept::{Kept, ask};
@@ -10,7 +10,7 @@ use std::io;
 use std::str::FromStr;
 use yexwalu::heaps;
 
-#[derive(Clone, Copy, Debug, PartialEq, Eq)]
+#[derive(Clone, Copy)]
 pub enum Question {
     GcDue,
     ReclaimDue,

@@ -4,8 +4,8 @@
 ghost use Rattle.std.specs.Prelude.{◌≡◌, [], IfErr};
 ghost use Rattle.protocol.specs.declared.Fault.TheVariants.{Bad};
 
-use protocol::fields::{BYTE, Fields};
-use protocol::{Fault, NoCommand};
+use fields::Fields;
+use protocol::{BYTE, Fault, NoCommand};
 use std::alloc::Global;
 use std::str::FromStr;
 
@@ -29,7 +29,7 @@ pub struct Function {
 }
 
 /// The commands that make a function.
-#[derive(Clone, Copy, Debug, PartialEq, Eq)]
+#[derive(Clone, Copy)]
 pub enum Command {
     Function,
     Instruction,

@@ -1,20 +1,22 @@
-// The commands of the program `replay` that collect: from roots, or at a safepoint of the function.
+// The commands of the program `replay` that collect: from roots, or at a safepoint of the function; and the one that rehearses thresholds.
 #![tactic(auto)]
 
 ghost use Rattle.std.specs.Prelude.{◌≡◌, IfErr};
 ghost use Rattle.protocol.specs.declared.Fault.TheVariants.{Bad};
 
+pub mod rehearsals;
+
 use answers::put_answer;
 use door::Done;
-use protocol::fields::{Fields, HALF, WORD};
-use protocol::{Fault, NoCommand};
+use fields::Fields;
+use protocol::{Fault, HALF, NoCommand, WORD};
 use replay_code::Function;
 use replay_kept::table::Table;
 use replay_kept::{Kept, Scratch};
 use std::str::FromStr;
 use yexwalu::heaps;
 
-#[derive(Clone, Copy, Debug, PartialEq, Eq)]
+#[derive(Clone, Copy)]
 pub enum Collection {
     Plain,
     Joined,

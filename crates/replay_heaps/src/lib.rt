@@ -6,7 +6,7 @@ ghost use Rattle.protocol.specs.declared.Fault.TheVariants.{Bad};
 
 use answers::{put_answer, put_told};
 use door::Done;
-use protocol::fields::Fields;
+use fields::Fields;
 use protocol::{Fault, NoCommand};
 use refusal::Answer;
 use replay_kept::{Kept, MOST_POOL, MOST_SLOTS, Scratch};
@@ -14,7 +14,7 @@ use std::io;
 use std::str::FromStr;
 use yexwalu::heaps;
 
-#[derive(Clone, Copy, Debug, PartialEq, Eq)]
+#[derive(Clone, Copy)]
 pub enum Command {
     New,
     Load,

@@ -2,8 +2,8 @@
 ghost use Rattle.std.specs.Prelude.{◌≡◌, [], IfErr};
 ghost use Rattle.protocol.specs.declared.Fault.TheVariants.{Bad};
 
-use protocol::fields::{Fields, HALF};
-use protocol::{Fault, NoCommand};
+use fields::Fields;
+use protocol::{Fault, HALF, NoCommand};
 use std::alloc::Global;
 use std::str::FromStr;
 
@@ -26,7 +26,7 @@ pub struct Table {
 }
 
 /// The commands that make a table.
-#[derive(Clone, Copy, Debug, PartialEq, Eq)]
+#[derive(Clone, Copy)]
 pub enum Command {
     Table,
     Type,

@@ -3,13 +3,14 @@
 
 ghost use Rattle.std.specs.Prelude.{◌≡◌, true, [], length, IfOk};
 
+use fields::Fields;
 use protocol::Fault;
-use protocol::fields::Fields;
 use replay_changes::Change;
 use replay_code::Function;
-use replay_collections::Collection;
+use replay_collections::{Collection, rehearsals};
 use replay_kept::table::{self, Table};
 use replay_kept::{Kept, MOST_POOL, MOST_SLOTS};
+use replay_reads::{pages, traced};
 use std::alloc::{AllocError, Global};
 use std::io;
 
@@ -68,8 +69,8 @@ impl State {
         if let Ok(change) = name.parse::<Change>() {
             return replay_changes::answer(rt, change, line, &mut self.kept);
         }
-        if let Ok(question) = name.parse::<replay_pages::Question>() {
-            return replay_pages::answer(rt, question, line, &self.kept);
+        if let Ok(question) = name.parse::<pages::Question>() {
+            return pages::answer(rt, question, line, &self.kept);
         }
         if let Ok(question) = name.parse::<replay_calls::Question>() {
             return replay_calls::answer(rt, question, line, &self.kept);
@@ -84,8 +85,8 @@ impl State {
                 &self.code,
             );
         }
-        if let Ok(question) = name.parse::<replay_traced::Question>() {
-            return replay_traced::answer(rt, question, line, &self.kept, &self.table);
+        if let Ok(question) = name.parse::<traced::Question>() {
+            return traced::answer(rt, question, line, &self.kept, &self.table);
         }
         Err(Fault::Bad)
     }
@@ -102,8 +103,8 @@ impl State {
         if let Ok(command) = name.parse::<replay_tables::Command>() {
             return replay_tables::answer(rt, command, line, &mut self.table);
         }
-        if name == replay_rehearsals::NAME {
-            return replay_rehearsals::answer(rt, line, &self.table);
+        if name == rehearsals::NAME {
+            return rehearsals::answer(rt, line, &self.table);
         }
         if let Ok(question) = name.parse::<replay_types::Question>() {
             return replay_types::answer(rt, question, line, &self.table);

@@ -2,14 +2,14 @@
 #![tactic(auto)]
 
 use answers::{List, front, put_told};
-use protocol::fields::{BYTE, Fields, HALF};
-use protocol::{Fault, NoCommand};
+use fields::Fields;
+use protocol::{BYTE, Fault, HALF, NoCommand};
 use replay_code::Function;
 use std::io;
 use std::str::FromStr;
 use yexwalu::live;
 
-#[derive(Clone, Copy, Debug, PartialEq, Eq)]
+#[derive(Clone, Copy)]
 pub enum Question {
     Live,
     LiveAt,

@@ -5,7 +5,7 @@ ghost use Rattle.std.specs.Prelude.{◌≡◌, IfErr};
 ghost use Rattle.protocol.specs.declared.Fault.TheVariants.{Bad};
 
 use answers::{Hex, front, put_answer, put_told};
-use protocol::fields::Fields;
+use fields::Fields;
 use protocol::{Fault, NoCommand};
 use refusal::Answer;
 use replay_kept::{Kept, Scratch, settle};
@@ -13,7 +13,7 @@ use std::io;
 use std::str::FromStr;
 use yexwalu::heaps;
 
-#[derive(Clone, Copy, Debug, PartialEq, Eq)]
+#[derive(Clone, Copy)]
 pub enum Change {
     Alloc,
     Fill,

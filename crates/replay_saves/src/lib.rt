@@ -5,8 +5,8 @@ ghost use Rattle.std.specs.Prelude.{◌≡◌, ◌≢◌};
 ghost use Rattle.replay_saves.specs.declared.Command.TheVariants.{Swap};
 
 use answers::{put_answer, put_told};
-use protocol::fields::{Fields, WORD};
-use protocol::{Fault, NoCommand};
+use fields::Fields;
+use protocol::{Fault, NoCommand, WORD};
 use refusal::Answer;
 use replay_kept::table::Table;
 use replay_kept::{Kept, Scratch};
@@ -14,7 +14,7 @@ use std::str::FromStr;
 use std::{io, mem};
 use yexwalu::heaps;
 
-#[derive(Clone, Copy, Debug, PartialEq, Eq)]
+#[derive(Clone, Copy)]
 pub enum Command {
     Swap,
     Same,

@@ -6,7 +6,7 @@ ghost use Rattle.protocol.specs.declared.Fault.TheVariants.{Bad};
 ghost use Rattle.replay_tables.specs.declared.Command.TheVariants.{Write};
 
 use answers::{put_page, put_told};
-use protocol::fields::Fields;
+use fields::Fields;
 use protocol::{Fault, NoCommand};
 use replay_kept::table::{MOST_BYTES, MOST_CONSTS, MOST_FIELDS, MOST_TYPES, Table};
 use std::alloc::{AllocError, Global};
@@ -14,7 +14,7 @@ use std::io;
 use std::str::FromStr;
 use yexwalu::{TableRead, table_text};
 
-#[derive(Clone, Copy, Debug, PartialEq, Eq)]
+#[derive(Clone, Copy)]
 pub enum Command {
     Read,
     Write,

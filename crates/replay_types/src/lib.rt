@@ -2,15 +2,15 @@
 #![tactic(auto)]
 
 use answers::{List, front, put_answer, put_told};
-use protocol::fields::{Fields, HALF};
-use protocol::{Fault, NoCommand};
+use fields::Fields;
+use protocol::{Fault, HALF, NoCommand};
 use refusal::Answer;
 use replay_kept::table::Table;
 use std::io;
 use std::str::FromStr;
-use yexwalu::handles;
+use yexwalu::{handles, types};
 
-#[derive(Clone, Copy, Debug, PartialEq, Eq)]
+#[derive(Clone, Copy)]
 pub enum Question {
     DescSize,
     HasHandles,
@@ -39,6 +39,15 @@ impl FromStr for Question {
 // The most numbers of a frame's map.
 const MOST_MAP: usize = 65536;
 
+// The calls that need a type alone.
+fn desc_size(t: &Table, ty: u64) -> Answer {
+    types::desc_size(&t.types, &t.fields, &t.consts, &t.bytes, ty)
+}
+
+fn has_handles(t: &Table, ty: u64) -> Answer {
+    types::has_handles(&t.types, &t.fields, &t.consts, &t.bytes, ty)
+}
+
 // A type without a descriptor's size is `none`, as the Rust has it.
 fn put_size(rt: &impl Print, a: Answer) -> io::Result<()> {
     if a.number == 11 {
@@ -51,7 +60,7 @@ fn put_size(rt: &impl Print, a: Answer) -> io::Result<()> {
 fn show_layout(rt: &impl Print, t: &Table, ty: u64, desc: &[u8]) -> io::Result<()> {
     // Kept: an array, here and below: room of one call; a `Vec` would only add a way to fail.
     let mut offsets = [0u64; 16384];
-    let a = yexwalu::types::layout(
+    let a = types::layout(
         &t.types,
         &t.fields,
         &t.consts,
@@ -123,16 +132,8 @@ pub fn answer(
     t: &Table,
 ) -> Result<(), Fault> {
     match question {
-        Question::DescSize => {
-            let ty = line.number(HALF)?;
-            let a = yexwalu::types::desc_size(&t.types, &t.fields, &t.consts, &t.bytes, ty);
-            put_size(rt, a)?;
-        }
-        Question::HasHandles => {
-            let ty = line.number(HALF)?;
-            let a = yexwalu::types::has_handles(&t.types, &t.fields, &t.consts, &t.bytes, ty);
-            put_answer(rt, a, 1)?;
-        }
+        Question::DescSize => put_size(rt, desc_size(t, line.number(HALF)?))?,
+        Question::HasHandles => put_answer(rt, has_handles(t, line.number(HALF)?), 1)?,
         Question::Layout => show_layout(rt, t, line.number(HALF)?, &line.bytes()?)?,
         Question::ObjectHandles => {
             let ty = line.number(HALF)?;

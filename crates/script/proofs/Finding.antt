@@ -5,10 +5,11 @@ use mathlib.Core.Option as maybe
 use mathlib.Core.Option.{none}
 use mathlib.Core.Path.{◌≡◌, refl, sym, ap, ◌∙◌, subst}
 use lib.ListN.{length, drop}
-use Rattle.text.specs.Text.{give, ascii, comma, digit_of, read_hex, read_literal, read_field}
+use Rattle.text.specs.Text.{give, ascii, comma, read_hex, read_literal, read_field}
 use Rattle.text.specs.Format.{number, bytes_line, pair}
 use Rattle.text.specs.Inner.Answer.{value_answer, literal_answer, hex_answer, hex_at}
 use Rattle.std.specs.Prelude.{Option, Some, None, is_some}
+use Rattle.text.proofs.Laws.{no-comma}
 use Rattle.text.proofs.Getting.{answer-none, field_found, hex-found, hex-missing, literal-found, literal-lost}
 use Rattle.script.specs.Script.{Call, alloc, take, seal, recycle, alloc_format, read_alloc, read_take, read_call, begins_call}
 use Rattle.script.specs.Inner.Found.{AllocReads, Reads, LineRead}
@@ -16,10 +17,6 @@ use Rattle.script.specs.declared.AllocLine.{AllocLine}
 use Rattle.script.specs.declared.Line.{Line}
 use Rattle.script.specs.declared.Line.TheVariants.{Alloc, Take, Seal, Recycle}
 use Rattle.script.proofs.Scripts.{begins-call, begins-bad}
-
-no-comma : digit_of comma ≡ none
-unfolding digit_of
-no-comma = refl
 
 hex-at : (s : List ℕ) (b : ℕ) (bs rest : List ℕ) → read_hex (drop b s) ≡ give bs rest → hex_at s b ≡ bs
 unfolding hex_at

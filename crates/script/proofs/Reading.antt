@@ -4,14 +4,10 @@ use mathlib.Core.List.{List, [], ◌∷◌, ◌++◌, append_assoc, append-nil}
 use mathlib.Core.Option.{Option, none, some}
 use mathlib.Core.Path.{◌≡◌, refl, sym, ap, ◌∙◌}
 use mathlib.Core.Logic.{◌↔◌}
-use Rattle.text.specs.Text.{Reader, give, ◌>>=◌, ascii, comma, decimal, digits, line, Bytes, digit_of, read_literal}
+use Rattle.text.specs.Text.{Reader, give, ◌>>=◌, ascii, comma, decimal, digits, line, Bytes, read_literal}
 use Rattle.text.specs.Format.{Right, number, bytes_line, pair}
-use Rattle.text.proofs.Laws.{none-not-some, bind-some, some_inj, literal-forth, literal-back, number-right, bytes-line-right, pair-right}
+use Rattle.text.proofs.Laws.{none-not-some, bind-some, some_inj, literal-forth, literal-back, number-right, bytes-line-right, pair-right, no-comma}
 use Rattle.script.specs.Script.{Call, alloc, take, seal, recycle, call_line, Within, alloc_format, read_alloc, read_take, named, read_call, alone, call_of}
-
-no-comma : digit_of comma ≡ none
-unfolding digit_of
-no-comma = refl
 
 abbrev Fields : Type 0
 Fields = ℕ × (ℕ × List ℕ)

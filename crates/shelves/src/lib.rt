@@ -272,7 +272,7 @@ pub struct Progress {
 
 impl Reading {
     // The names line, and a run at its start; and where in the output the line ends.
-    // Kept: a library has memory of fixed size, a rule of the project.
+    // Kept: arrays of fixed size, so that no step can fail for want of memory.
     pub fn begin(out: &mut [u8; 65536]) -> (Reading, usize)
         ensures { Begun result.0.shelf out.new result.1 }
     {

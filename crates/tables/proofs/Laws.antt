@@ -12,7 +12,7 @@ use borrow.Author.Tests.{ne_eqb, eqb-true, leb-true}
 use Rattle.std.specs.Prelude.{if◌then◌else◌}
 use Rattle.text.specs.Text.{give, ◌>>=◌, decimal, hex, line, newline, comma, Bytes, digit_of, Stops, read_field, read_decimal, read_literal}
 use Rattle.text.specs.Format.{Right, bytes_line, after_literal, pair, times, All}
-use Rattle.text.proofs.Laws.{none-not-some, bind-some, some_inj, passed, decimal-forth, decimal-back, literal-forth, literal-back, bytes-line-right, after-literal-right, pair-right, times-right, number-join}
+use Rattle.text.proofs.Laws.{none-not-some, bind-some, some_inj, passed, decimal-forth, decimal-back, literal-forth, literal-back, bytes-line-right, after-literal-right, pair-right, times-right, number-join, no-comma, no-newline}
 use Rattle.pages.specs.Page.{whole}
 use Rattle.pages.proofs.Laws.{whole-some, flat_map-same}
 use Rattle.tables.specs.Table.{Row, Named, field, name_text, row_line, count_names, type_names, field_names, constant_names, bytes_name, counts_line, table_text, plain, Plain, RowWithin, most64, most32, Within, up_to, read_name, name_format, row_format, Counts, counts_format, rows_format, bytes_format, Body, table_format, named_of, saved, read_table}
@@ -37,14 +37,6 @@ up-to-right most end none_of =
           let l : end ∷ q.0 ≡ p.0.1 = literal-back (end ∷ []) p.0.1 q.0 q.1 in
           number-join most p.0.0 n end t p.0.1 q.0 rest d.0 d.1 l v0 v1;
     }
-
-no-comma : digit_of comma ≡ none
-unfolding digit_of
-no-comma = refl
-
-no-newline : digit_of newline ≡ none
-unfolding digit_of
-no-newline = refl
 
 pub num : (most : ℕ) → Right (up_to most comma) (λ n. n ≤ most)
 num most = up-to-right most comma no-comma

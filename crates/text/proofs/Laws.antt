@@ -11,7 +11,7 @@ use lib.ListN.{length, length-append}
 use lib.Pow.{le_ones, lt_of_le_ones}
 use borrow.Author.Tests.{lt-ltb, le-ltb, le-leb, lt-leb, eq-eqb, ne_eqb, ltb-true, ltb-false, leb-true, eqb-true}
 use native.Mathlib.Omega.{arith}
-use Rattle.text.specs.Text.{◌>>=◌, give, Bytes, newline, digits, decimal, hex_digit, hex, digit_of, Stops, ends, scan, capped, after, read_decimal, hex_digit_of, byte_of, read_hex, read_literal, read_field}
+use Rattle.text.specs.Text.{◌>>=◌, give, Bytes, newline, comma, digits, decimal, hex_digit, hex, digit_of, Stops, ends, scan, capped, after, read_decimal, hex_digit_of, byte_of, read_hex, read_literal, read_field}
 use Rattle.std.specs.Prelude.{if◌then◌else◌}
 use Rattle.word.proofs.Bools.{and_both}
 use Rattle.text.specs.Format.{Format, Right, number, bytes_line, after_literal, or_else, either, always, pair, times, mapped, read_all, All}
@@ -76,6 +76,16 @@ digit-of-some b d e =
     let u : b ≤ 57 = leb-true b 57 q.1 in
     let v : b - 48 ≡ d = some_inj p.1 in
     (omega arith, omega arith)
+
+-- the bytes that end a number are no digits
+
+pub no-comma : digit_of comma ≡ none
+unfolding digit_of
+no-comma = refl
+
+pub no-newline : digit_of newline ≡ none
+unfolding digit_of
+no-newline = refl
 
 -- Scanning
 
