@@ -1,5 +1,19 @@
 -- What the code finds of a long line: one law for each way out. Assumes nothing.
 use Prim.Native.Nat.{ℕ, zero, suc, ◌+◌, ◌-◌, ◌*◌, ◌/◌, ◌%◌, ◌^◌, ◌≤◌, ◌<◌}
+use Rattle.word.proofs.Bools.{and_both}
+use Rattle.word.specs.Lists.{all}
+use Rattle.word.specs.Put.{put}
+use Rattle.word.proofs.PutLaws.{take_put}
+use Rattle.text.specs.Text.{ascii, comma, read_literal}
+use Rattle.text.specs.Reading.{give, read_field}
+use Rattle.text.specs.Format.{number}
+use Rattle.text.specs.Inner.Answer.{value_answer, literal_answer}
+use Rattle.std.specs.Prelude.{◌↔◌, Option, Some, None}
+use Rattle.text.proofs.Laws.{literal-back, number-right, no-comma}
+use Rattle.text.proofs.Getting.{answer-none, field_found, literal-found, literal-lost}
+use Rattle.script.specs.Script.{run_script}
+use Rattle.page_runs.specs.Inner.Long.{Open, head_of, read_head, DataFrom, HeadFound, is_hex, AllHex, Shortens}
+use Rattle.page_runs.proofs.Long.{head-short, bad-head, bad-data, less-alike}
 use mathlib.Core.Bool.{Bool, true, false}
 use mathlib.Core.List.{List, [], ◌∷◌, ◌++◌, append_assoc}
 use mathlib.Core.Option.{none, some}
@@ -7,26 +21,8 @@ use mathlib.Core.Path.{◌≡◌, refl, sym, ap, ◌∙◌, subst}
 use native.Mathlib.Omega.{arith}
 use lib.ListN.{length, take, drop, length-append, length-drop}
 use lib.Seq.{take_at, take-add, take_all, drop-drop}
-use Rattle.word.proofs.Bools.{and_both}
-use Rattle.word.specs.Lists.{all}
-use Rattle.word.specs.Put.{put}
-use Rattle.word.proofs.PutLaws.{take_put}
-use Rattle.text.specs.Text.{ascii, comma, read_literal}
-use Rattle.text.specs.Reading.{give, digit_of, read_field}
-use Rattle.text.specs.Format.{number}
-use Rattle.text.specs.Inner.Answer.{value_answer, literal_answer}
-use Rattle.std.specs.Prelude.{◌↔◌, Option, Some, None}
-use Rattle.text.proofs.Laws.{literal-back, number-right}
-use Rattle.text.proofs.Getting.{answer-none, field_found, literal-found, literal-lost}
-use Rattle.script.specs.Script.{run_script}
-use Rattle.page_runs.specs.Inner.Long.{Open, head_of, read_head, DataFrom, HeadFound, is_hex, AllHex, Shortens}
-use Rattle.page_runs.proofs.Long.{head-short, bad-head, bad-data, less-alike}
 
 -- ---- the beginning of the line
-
-no-comma : digit_of comma ≡ none
-unfolding digit_of
-no-comma = refl
 
 -- what is handed on by `?`
 none-there : (s : List ℕ) {out : Option ℕ} → out ≡ None → read_head s ≡ none → HeadFound s out

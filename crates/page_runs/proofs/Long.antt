@@ -1,21 +1,12 @@
 -- A line longer than the buffer: an `alloc` line of more data than the pool takes is answered alike whatever that data is, and one that is no such line is bad whatever follows. Assumes nothing.
 use Prim.Native.Nat.{ℕ, zero, suc, ◌+◌, ◌-◌, ◌*◌, ◌/◌, ◌%◌, ◌^◌, ◌≤◌, ◌<◌}
-use mathlib.Core.Bool.{Bool, true, false, ◌&&◌, ◌||◌}
-use mathlib.Core.List.{List, [], ◌∷◌, ◌++◌, append_assoc}
-use mathlib.Core.Option.{Option, none, some}
-use mathlib.Core.Path.{◌≡◌, refl, sym, ap, ◌∙◌}
-use native.Mathlib.Omega.{arith}
-use lib.Dec.{leb}
-use lib.ListN.{length, take, drop, get_or, length-append, length-drop, take-append-drop, get_or-append}
-use lib.Seq.{take-append-le, take-append_seam, get_or-drop}
-use borrow.Author.Tests.{ne_eqb}
 use Rattle.std.specs.Prelude.{if◌then◌else◌}
 use Rattle.word.specs.Lists.{all}
 use Rattle.word.proofs.Bools.{and_both}
 use Rattle.text.specs.Text.{ascii, newline, comma, decimal, digits, line, hex_digit, hex, Bytes, All}
-use Rattle.text.specs.Reading.{give, ◌>>=◌, digit_of, hex_digit_of, byte_of, read_hex}
+use Rattle.text.specs.Reading.{give, ◌>>=◌, hex_digit_of, byte_of, read_hex}
 use Rattle.text.specs.Format.{number, bytes_line, pair}
-use Rattle.text.proofs.Laws.{none-not-some, decimal-length, byte-forth, hex-digit-above, hex-digit-back, literal-forth, number-right}
+use Rattle.text.proofs.Laws.{none-not-some, decimal-length, byte-forth, hex-digit-above, hex-digit-back, literal-forth, number-right, no-comma}
 use Rattle.heap.specs.State.{State}
 use Rattle.heap.specs.Calls.{Changed, refuse}
 use Rattle.heap_calls.proofs.Allocating.{alloc-none}
@@ -26,10 +17,15 @@ use Rattle.script.specs.Reading.{alloc_format, read_alloc, read_call}
 use Rattle.script.proofs.Reading.{call_back}
 use Rattle.script.proofs.Scripts.{run_call, run-bad}
 use Rattle.page_runs.specs.Inner.Long.{Open, head_of, read_head, DataFrom, is_hex, Bad, Alike}
-
-no-comma : digit_of comma ≡ none
-unfolding digit_of
-no-comma = refl
+use mathlib.Core.Bool.{Bool, true, false, ◌&&◌, ◌||◌}
+use mathlib.Core.List.{List, [], ◌∷◌, ◌++◌, append_assoc}
+use mathlib.Core.Option.{Option, none, some}
+use mathlib.Core.Path.{◌≡◌, refl, sym, ap, ◌∙◌}
+use native.Mathlib.Omega.{arith}
+use lib.Dec.{leb}
+use lib.ListN.{length, take, drop, get_or, length-append, length-drop, take-append-drop, get_or-append}
+use lib.Seq.{take-append-le, take-append_seam, get_or-drop}
+use borrow.Author.Tests.{ne_eqb}
 
 -- ---- hexadecimal digits
 

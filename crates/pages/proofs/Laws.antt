@@ -1,10 +1,10 @@
 -- The laws of the page.
 use Prim.Native.Nat.{ℕ, ◌^◌, ◌≤◌, ◌<◌}
 use Rattle.text.specs.Text.{ascii, line, newline, comma, Bytes, read_literal, All}
-use Rattle.text.specs.Reading.{give, ◌>>=◌, digit_of}
+use Rattle.text.specs.Reading.{give, ◌>>=◌}
 use Rattle.text.specs.Format.{number, bytes_line, after_literal, either, always, pair, times, mapped, read_all}
 use Rattle.text.specs.Inner.Right.{Right}
-use Rattle.text.proofs.Laws.{none-not-some, bind-some, some_inj, number-right, bytes-line-right, after-literal-right, Any, Apart, either-right, always-right, pair-right, times-right, mapped-where, mapped-right, injective, Listed}
+use Rattle.text.proofs.Laws.{none-not-some, bind-some, some_inj, number-right, bytes-line-right, after-literal-right, Any, Apart, either-right, always-right, pair-right, times-right, mapped-where, mapped-right, injective, no-comma, Listed, no-newline}
 use Rattle.heap.specs.State.{Slot, State, slot_at, worn}
 use Rattle.std.specs.Prelude.{if◌then◌else◌, filter}
 use Rattle.planes.proofs.Laws.{bytes-planes, bytes-restored, restored-planes, planes-restored}
@@ -18,14 +18,6 @@ use mathlib.Core.Path.{◌≡◌, refl, sym, ap, ap₂, subst, ◌∙◌}
 use mathlib.Core.Logic.{◌↔◌}
 use native.Mathlib.Omega.{arith}
 use lib.ListN.{length, length-map}
-
-no-comma : digit_of comma ≡ none
-unfolding digit_of
-no-comma = refl
-
-no-newline : digit_of newline ≡ none
-unfolding digit_of
-no-newline = refl
 
 num : (width : ℕ) → Right (number width comma) (λ n. n < 2 ^ width)
 num width = number-right width comma no-comma

@@ -1,10 +1,10 @@
 -- A line's text reads as that line, and only its text does; so does a text of lines. Assumes nothing.
 use Prim.Native.Nat.{ℕ, zero, suc, ◌^◌, ◌<◌, ◌≤◌}
 use Rattle.text.specs.Text.{ascii, comma, newline, line, read_literal, All}
-use Rattle.text.specs.Reading.{give, ◌>>=◌, digit_of}
+use Rattle.text.specs.Reading.{give, ◌>>=◌}
 use Rattle.text.specs.Format.{number, bytes_line, pair}
 use Rattle.text.specs.Inner.Right.{Right}
-use Rattle.text.proofs.Laws.{none-not-some, bind-some, some_inj, literal-forth, literal-back, number-right, pair-right, by_name}
+use Rattle.text.proofs.Laws.{none-not-some, bind-some, some_inj, literal-forth, literal-back, number-right, pair-right, by_name, no-comma, no-newline}
 use Rattle.script.specs.Reading.{alloc_format}
 use Rattle.script.proofs.Reading.{alloc-right}
 use Rattle.rehearsal.specs.Lines.{Line, alloc, store, drop, line_text, lines_text, Within}
@@ -16,14 +16,6 @@ use mathlib.Core.Option.{Option, none, some}
 use mathlib.Core.Path.{◌≡◌, refl, ap, ◌∙◌}
 use mathlib.Core.Logic.{◌↔◌}
 use lib.ListN.{length, length-append}
-
-no-comma : digit_of comma ≡ none
-unfolding digit_of
-no-comma = refl
-
-no-newline : digit_of newline ≡ none
-unfolding digit_of
-no-newline = refl
 
 abbrev Fields : Type 0
 Fields = ℕ × (ℕ × List ℕ)

@@ -1,14 +1,7 @@
 -- What the code's readers say of a line: one law for each way out. Assumes nothing.
 use Prim.Native.Nat.{ℕ, ◌≤◌, ◌<◌}
-use native.Mathlib.Omega.{arith}
-use mathlib.Core.Bool.{true, false}
-use mathlib.Core.List.{List, [], ◌∷◌}
-use mathlib.Core.Option as maybe
-use mathlib.Core.Option.{none}
-use mathlib.Core.Path.{◌≡◌, refl, sym, ◌∙◌, subst}
-use lib.ListN.{length, drop, length-drop}
-use Rattle.text.specs.Text.{ascii, comma, newline, read_literal}
-use Rattle.text.specs.Reading.{give, digit_of, read_field}
+use Rattle.text.specs.Text.{ascii, comma, read_literal}
+use Rattle.text.specs.Reading.{give, read_field}
 use Rattle.text.specs.Format.{number, pair}
 use Rattle.text.specs.Inner.Answer.{value_answer, literal_answer}
 use Rattle.std.specs.Prelude.{Option, Some, None}
@@ -22,14 +15,14 @@ use Rattle.rehearsal.proofs.Reading.{line-shorter, text-nothing, text-bad, text-
 use Rattle.rehearsal_lines.specs.Inner.Found.{step_in, Reads, LineRead}
 use Rattle.rehearsal_lines.specs.declared.Line.{Line}
 use Rattle.rehearsal_lines.specs.declared.Line.TheVariants.{Alloc, Store, Drop}
-
-no-comma : digit_of comma ≡ none
-unfolding digit_of
-no-comma = refl
-
-no-newline : digit_of newline ≡ none
-unfolding digit_of
-no-newline = refl
+use Rattle.text.proofs.Laws.{no-comma, no-newline}
+use native.Mathlib.Omega.{arith}
+use mathlib.Core.Bool.{true, false}
+use mathlib.Core.List.{List, [], ◌∷◌}
+use mathlib.Core.Option as maybe
+use mathlib.Core.Option.{none}
+use mathlib.Core.Path.{◌≡◌, refl, sym, ◌∙◌, subst}
+use lib.ListN.{length, drop, length-drop}
 
 -- ---- `alloc`: the line of its fields
 

@@ -15,15 +15,12 @@ use Rattle.script.specs.declared.Line.{Line}
 use Rattle.script.specs.declared.Line.TheVariants.{Alloc, Take, Seal, Recycle}
 use Rattle.script.proofs.Scripts.{begins-call, begins-bad}
 use Rattle.text.proofs.Copying.{hex-is}
+use Rattle.text.proofs.Laws.{no-comma}
 use mathlib.Core.List.{List, [], ◌∷◌}
 use mathlib.Core.Option as maybe
 use mathlib.Core.Option.{none}
 use mathlib.Core.Path.{◌≡◌, refl, sym, ap, ◌∙◌, subst}
 use lib.ListN.{length, drop}
-
-no-comma : digit_of comma ≡ none
-unfolding digit_of
-no-comma = refl
 
 -- ---- `alloc`: type, kind, data
 

@@ -1,20 +1,16 @@
 -- A call's line reads as that call, and only its line does. Assumes nothing.
 use Prim.Native.Nat.{ℕ, ◌^◌, ◌<◌}
 use Rattle.text.specs.Text.{ascii, comma, decimal, digits, line, Bytes, read_literal}
-use Rattle.text.specs.Reading.{give, ◌>>=◌, digit_of}
+use Rattle.text.specs.Reading.{give, ◌>>=◌}
 use Rattle.text.specs.Format.{number, bytes_line, pair}
 use Rattle.text.specs.Inner.Right.{Right}
-use Rattle.text.proofs.Laws.{none-not-some, bind-some, some_inj, literal-forth, literal-back, number-right, bytes-line-right, pair-right, by_name}
+use Rattle.text.proofs.Laws.{none-not-some, bind-some, some_inj, literal-forth, literal-back, number-right, bytes-line-right, pair-right, by_name, no-comma}
 use Rattle.script.specs.Calls.{Call, alloc, take, seal, recycle, call_line, Within}
 use Rattle.script.specs.Reading.{alloc_format, read_alloc, read_take, read_call, alone, call_of}
 use mathlib.Core.List.{List, [], ◌∷◌, ◌++◌, append_assoc, append-nil}
 use mathlib.Core.Option.{none, some}
 use mathlib.Core.Path.{◌≡◌, refl, sym, ap, ◌∙◌}
 use mathlib.Core.Logic.{◌↔◌}
-
-no-comma : digit_of comma ≡ none
-unfolding digit_of
-no-comma = refl
 
 abbrev Fields : Type 0
 Fields = ℕ × (ℕ × List ℕ)

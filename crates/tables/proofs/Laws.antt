@@ -6,7 +6,7 @@ use Rattle.text.specs.Reading.{give, ◌>>=◌, digit_of, read_field, read_decim
 use Rattle.text.specs.Inner.Answer.{Stops}
 use Rattle.text.specs.Format.{bytes_line, after_literal, pair, times}
 use Rattle.text.specs.Inner.Right.{Right}
-use Rattle.text.proofs.Laws.{none-not-some, bind-some, some_inj, passed, decimal-forth, decimal-back, literal-forth, literal-back, bytes-line-right, after-literal-right, pair-right, times-right, number-join, Listed}
+use Rattle.text.proofs.Laws.{none-not-some, bind-some, some_inj, passed, decimal-forth, decimal-back, literal-forth, literal-back, bytes-line-right, after-literal-right, pair-right, times-right, number-join, Listed, no-comma, no-newline}
 use Rattle.pages.specs.Reading.{whole}
 use Rattle.pages.proofs.Laws.{whole-some, flat_map-same}
 use Rattle.tables.specs.Table.{Row, Named, field, name_text, row_line, count_names, type_names, field_names, constant_names, bytes_name, counts_line, table_text, plain, Plain, RowWithin, most64, most32, Within}
@@ -42,14 +42,6 @@ up-to-right most end none_of =
           let l : end ∷ q.0 ≡ p.0.1 = literal-back (end ∷ []) p.0.1 q.0 q.1 in
           number-join most p.0.0 n end t p.0.1 q.0 rest d.0 d.1 l v0 v1;
     }
-
-no-comma : digit_of comma ≡ none
-unfolding digit_of
-no-comma = refl
-
-no-newline : digit_of newline ≡ none
-unfolding digit_of
-no-newline = refl
 
 pub num : (most : ℕ) → Right (up_to most comma) (λ n. n ≤ most)
 num most = up-to-right most comma no-comma

@@ -1,6 +1,6 @@
 -- The laws of specs/Text.antt and specs/Format.antt.
 use Prim.Native.Nat.{ℕ, zero, suc, ◌+◌, ◌-◌, ◌*◌, ◌/◌, ◌%◌, ◌^◌, ◌≤◌, ◌<◌}
-use Rattle.text.specs.Text.{Bytes, newline, digits, decimal, hex_digit, hex, read_literal, All}
+use Rattle.text.specs.Text.{Bytes, newline, digits, decimal, hex_digit, comma, hex, read_literal, All}
 use Rattle.text.specs.Reading.{named, Reader, ◌>>=◌, give, digit_of, ends, scan, capped, after, read_decimal, hex_digit_of, byte_of, read_hex, read_field}
 use Rattle.text.specs.Inner.Answer.{Stops}
 use Rattle.std.specs.Prelude.{if◌then◌else◌}
@@ -85,6 +85,16 @@ digit-of-some b d e =
     let u : b ≤ 57 = leb-true b 57 q.1 in
     let v : b - 48 ≡ d = some_inj p.1 in
     (omega arith, omega arith)
+
+-- the bytes that end a number are no digits
+
+pub no-comma : digit_of comma ≡ none
+unfolding digit_of
+no-comma = refl
+
+pub no-newline : digit_of newline ≡ none
+unfolding digit_of
+no-newline = refl
 
 -- Scanning
 
