@@ -1,5 +1,4 @@
 -- Laws that belong to no one function.
-pub mod Turns
 pub mod Scratch
 pub mod Chaining
 pub mod Growth

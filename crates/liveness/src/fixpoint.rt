@@ -9,9 +9,9 @@ ghost use Rattle.liveness.specs.Inner.Scratch.{Outside, cell, live_at, turn_of, 
 ghost use Rattle.liveness.specs.Inner.Plans.{out_row, Room, StartChains, BegunIn, BuiltIn};
 
 use crate::chains::{BlockChains, NO_BLOCK};
-use crate::row::{back_row, kill_row};
 use code::{Flow, Plan, Registers};
 use rows::Step;
+use transfer::{back_row, kill_row};
 
 // The row at `at` becomes zero.
 fn clear_row(s: &mut [u64], at: usize, words: usize)

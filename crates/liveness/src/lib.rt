@@ -3,4 +3,3 @@
 
 pub mod chains;
 pub mod fixpoint;
-pub mod row;

@@ -1,6 +1,6 @@
 use native.Mathlib.Omega.{arith}
-use Rattle.liveness.proofs.Turns.{backs-on, backs-none, backs-end}
-use Rattle.liveness.proofs.row.back_row.Goals as goal
+use Rattle.transfer.proofs.Turns.{backs-on, backs-none, backs-end}
+use Rattle.transfer.proofs.back_row.Goals as goal
 
 pub loop-p-init : goal.loop-p-init
 loop-p-init c = backs-none _ _ _ _ _ _ _ c.requires.0

@@ -1,5 +1,7 @@
-// One row of registers: the steps back over the instructions of a block.
+// One row of registers: the steps back over the instructions of a block. Inner functions: a plan says what they require.
 // Kept: a row is a part of the scratch that is lent on, so that it has room for all registers is a clause of each step, and so is the range of instructions, which is another one for each block.
+#![tactic(auto)]
+
 ghost use Rattle.std.specs.Prelude.{◌≡◌, true, false, not, ◌&&◌, ◌||◌, List, ℕ, ◌+◌, ◌-◌, ◌*◌, ◌≤◌, ◌<◌, length};
 ghost use Rattle.rows.specs.Inner.Row.{bit_in};
 ghost use Rattle.flow.specs.Function.{reads, writes};

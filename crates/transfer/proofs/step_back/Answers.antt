@@ -1,4 +1,4 @@
--- `liveness::row::step_back` meets its contract.
+-- `transfer::step_back` meets its contract.
 use native.Mathlib.Omega.{arith}
 use mathlib.Core.Path.{refl, ◌≡◌}
 use mathlib.Core.List.{List}
@@ -7,9 +7,9 @@ use Rattle.word.specs.Run.{start_of}
 use Rattle.code.specs.Inner.Columns.{Lists}
 use Rattle.code.proofs.Plans.{part-slice}
 use Rattle.code.proofs.Views.{list-fits, next_fits}
-use Rattle.liveness.proofs.Turns.{stepped-back}
+use Rattle.transfer.proofs.Turns.{stepped-back}
 use lib.ListN.{length, get_or}
-use Rattle.liveness.proofs.row.step_back.Goals as goal
+use Rattle.transfer.proofs.step_back.Goals as goal
 
 -- the registers written, then those read, lie in refs
 written : (ends refs : List ℕ) → Lists ends refs → (p a m : ℕ) → 3 * p + 2 < length ends → a ≡ start_of ends (3 * p) → m ≡ get_or ends (3 * p) 0 → (a ≤ m) × (m ≤ length refs)

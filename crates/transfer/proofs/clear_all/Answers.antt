@@ -5,10 +5,10 @@ use Prim.Native.Nat.{ℕ}
 use lib.ListN.{length}
 use Rattle.rows.specs.Inner.Row.{bit_in}
 use Rattle.code.specs.Inner.Columns.{wanted}
-use Rattle.liveness.proofs.Turns.{asked-known, clears-on, clears-skip, clears-end}
+use Rattle.transfer.proofs.Turns.{asked-known, clears-on, clears-skip, clears-end}
 use Rattle.code.proofs.Plans.{slice-all}
-use Rattle.liveness.proofs.row.clear_all.Goals as goal
-use Rattle.liveness.proofs.row.clear_all.Goals.{then-takes_part, else-takes_part}
+use Rattle.transfer.proofs.clear_all.Goals as goal
+use Rattle.transfer.proofs.clear_all.Goals.{then-takes_part, else-takes_part}
 
 pub loop-register-init : goal.loop-register-init
 loop-register-init c = record { kept = refl; low = omega arith; high = omega arith; bits = λ q. refl }

@@ -1,8 +1,8 @@
--- `liveness::row::takes_part` meets its contract.
+-- `transfer::takes_part` meets its contract.
 use Rattle.std.proofs.Common.{◌≡◌, ℕ, Bool, true, sym, ◌&&◌, get_or, eqb, ap, ◌∙◌}
 use Rattle.code.specs.Inner.Columns.{wanted}
-use Rattle.liveness.proofs.Turns.{asked-class, want-pointer}
-use Rattle.liveness.proofs.row.takes_part.Goals as goal
+use Rattle.transfer.proofs.Turns.{asked-class, want-pointer}
+use Rattle.transfer.proofs.takes_part.Goals as goal
 
 pub returns-then-class-eq2 : goal.returns-then-class-eq2
 returns-then-class-eq2 c =

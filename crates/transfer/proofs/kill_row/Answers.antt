@@ -6,9 +6,9 @@ use Rattle.word.specs.Run.{start_of}
 use Rattle.code.specs.Inner.Columns.{Lists}
 use Rattle.code.proofs.Plans.{part-slice}
 use Rattle.code.proofs.Views.{list-fits}
-use Rattle.liveness.proofs.Turns.{kills-on, kills-none, kills-end}
+use Rattle.transfer.proofs.Turns.{kills-on, kills-none, kills-end}
 use lib.ListN.{length, get_or}
-use Rattle.liveness.proofs.row.kill_row.Goals as goal
+use Rattle.transfer.proofs.kill_row.Goals as goal
 
 -- the registers that instruction p writes lie in refs
 written : (ends refs : List ℕ) → Lists ends refs → (p a m : ℕ) → 3 * p < length ends → a ≡ start_of ends (3 * p) → m ≡ get_or ends (3 * p) 0 → (a ≤ m) × (m ≤ length refs)
