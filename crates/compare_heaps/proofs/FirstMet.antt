@@ -6,7 +6,7 @@ use mathlib.Core.List.{List, [], map}
 use lib.ListN.{length, get_or, take}
 use lib.Seq.{ext_get_or}
 use native.Mathlib.Omega.{arith}
-use Rattle.trace.specs.Inner.Emit.{Answer}
+use Rattle.trace.specs.Inner.Emit.{InUse}
 use Rattle.std.specs.Prelude.{Some, None}
 use Rattle.std.specs.Prelude.{Option as Option'}
 use Rattle.word.specs.Run.{run}
@@ -72,14 +72,14 @@ module _ (T : Table) (tag slots S : ℕ) (narrow wide pool : List ℕ) where
             omega arith;
       }
 
-  module _ (roots marks₀ work₀ : List ℕ) (c : Clear slots marks₀ work₀) (r : Answer) (marks work : List ℕ)
+  module _ (roots marks₀ work₀ : List ℕ) (c : Clear slots marks₀ work₀) (r : InUse) (marks work : List ℕ)
       (t : Traces r slots marks work
       (drained (graph_in T tag slots S narrow wide pool) slots (seeded_from (leads_to tag slots S narrow) (live_in slots (run S S narrow)) (state_of marks₀ work₀ 0) roots [] []) 0)) where
     abbrev from : Option State
     from = drained (graph_in T tag slots S narrow wide pool) slots (seeded_from (leads_to tag slots S narrow) (live_in slots (run S S narrow)) (state_of marks₀ work₀ 0) roots [] []) 0
 
-    at : (x : Answer) → r ≡ x → Traces x slots marks work from
-    at x e = subst (λ (y : Answer). Traces y slots marks work from) e t
+    at : (x : InUse) → r ≡ x → Traces x slots marks work from
+    at x e = subst (λ (y : InUse). Traces y slots marks work from) e t
 
     pub meet-stops : r ≡ None → Stops (columns_model T tag slots S narrow wide pool) roots
     meet-stops e = marks-untraced T tag slots S narrow wide pool roots marks₀ work₀ c.clear marks work (at None e)

@@ -12,7 +12,7 @@ use Rattle.std.specs.declared.cmp.Ordering.{Ordering}
 use Rattle.word.specs.Result.{Result}
 use Rattle.ty.specs.Types.{Table}
 use Rattle.trace.specs.Places.{Places, shown_places}
-use Rattle.trace.specs.Inner.Emit.{Answer, Raw, raw_of, compared, handing_at, told}
+use Rattle.trace.specs.Inner.Emit.{Raw, raw_of, compared, handing_at, told, InUse}
 use Rattle.traced.proofs.BesideLaws.{beside-told, beside_none}
 use Rattle.alike.specs.Order.{order}
 use Rattle.alike.specs.Inner.ByTurns.{◌and_then◌}
@@ -58,7 +58,7 @@ module _ (s f : ℕ) (b : List ℕ) (e : f ≡ min s (length b)) where
 
 -- ---- what one trace found
 
-module _ (T : Table) (kind t start : ℕ) (b c work : List ℕ) (R R' : ℕ → Result ℕ) (owork : List ℕ) (r : Answer) (found work' : List ℕ)
+module _ (T : Table) (kind t start : ℕ) (b c work : List ℕ) (R R' : ℕ → Result ℕ) (owork : List ℕ) (r : InUse) (found work' : List ℕ)
     (er : told r found work' ≡ handing_at (compared R R' owork (drop start c)) (drop start b) (raw_of (0 ∷ 0 ∷ []) work 0) (shown_places T kind t start b))
     (can : shown_places T kind t start b ≡ none → ⊥) where
   abbrev place : ℕ → ℕ → Ordering

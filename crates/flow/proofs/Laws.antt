@@ -7,7 +7,8 @@ use mathlib.Core.List.{List, [], ◌∷◌}
 use Prim.Native.Nat.{ℕ, zero, suc, ◌+◌, ◌-◌, ◌≤◌, ◌<◌}
 use Rattle.flow.specs.Function.{Function, Block, reads, writes, start, end, successors, Within, Leaves, Next, Walk, ReadFirst, Live}
 use Rattle.word.specs.Lists.{has}
-use Rattle.flow.specs.Dataflow.{turn, back, killed, gen, kill, any_of, out, into}
+use Rattle.flow.specs.Dataflow.{turn, back, killed, gen, kill, out, into}
+use Rattle.std.specs.List.{list_any}
 use Rattle.word.proofs.Bools.{or_cases, or_left, or_right}
 use Rattle.flow.specs.Inner.Sets.{Closed, Sound}
 use native.Mathlib.Omega.{arith}
@@ -75,15 +76,15 @@ module _ (f : Function) (r b : ℕ) (x : Bool) (after : x ≡ true → Onward f 
       (back-sound n (suc p) (omega arith) (omega arith) w.1))
       (turn-true (reads f p r) (writes f p r) (back f r (suc p) (suc n) x) h)
 
-any-has : (X : ℕ → Bool) (l : List ℕ) → any_of X l ≡ true → (s : ℕ) × (has l s ≡ true) × (X s ≡ true)
+any-has : (X : ℕ → Bool) (l : List ℕ) → list_any X l ≡ true → (s : ℕ) × (has l s ≡ true) × (X s ≡ true)
 any-has X [] h = absurd (false≢true h)
 any-has X (s ∷ ss) h =
-    ⊎_elim {C = (t : ℕ) × (has (s ∷ ss) t ≡ true) × (X t ≡ true)} (λ w. (s, or_left _ (has ss s) (eq-eqb s s refl), w)) (λ w. let (t, m, x) = any-has X ss w in (t, or_right (eqb s t) _ m, x)) (or_cases (X s) (any_of X ss) h)
+    ⊎_elim {C = (t : ℕ) × (has (s ∷ ss) t ≡ true) × (X t ≡ true)} (λ w. (s, or_left _ (has ss s) (eq-eqb s s refl), w)) (λ w. let (t, m, x) = any-has X ss w in (t, or_right (eqb s t) _ m, x)) (or_cases (X s) (list_any X ss) h)
 
-has-any : (X : ℕ → Bool) (l : List ℕ) (s : ℕ) → has l s ≡ true → X s ≡ true → any_of X l ≡ true
+has-any : (X : ℕ → Bool) (l : List ℕ) (s : ℕ) → has l s ≡ true → X s ≡ true → list_any X l ≡ true
 has-any X [] s h x = absurd (false≢true h)
 has-any X (t ∷ ts) s h x =
-    ⊎_elim (λ e. or_left _ (any_of X ts) (subst (λ (u : ℕ). X u ≡ true) (sym (eqb-true t s e)) x)) (λ e. or_right (X t) _ (has-any X ts s e x)) (or_cases (eqb t s) (has ts s) h)
+    ⊎_elim (λ e. or_left _ (list_any X ts) (subst (λ (u : ℕ). X u ≡ true) (sym (eqb-true t s e)) x)) (λ e. or_right (X t) _ (has-any X ts s e x)) (or_cases (eqb t s) (has ts s) h)
 
 -- ---- the theorem
 
@@ -129,7 +130,7 @@ into-filled f r X b h = go (dec_lt (start f b) (end f b))
     go (no k) =
         let e : end f b ≤ start f b = omega arith in
         let z : end f b - start f b ≡ 0 = omega arith in
-        absurd (false≢true (sym (into_back f r X b ∙ ap (λ (n : ℕ). back f r (start f b) n (out f X b)) z ∙ ap (any_of X) (no-successors f b e)) ∙ h))
+        absurd (false≢true (sym (into_back f r X b ∙ ap (λ (n : ℕ). back f r (start f b) n (out f X b)) z ∙ ap (list_any X) (no-successors f b e)) ∙ h))
 
 pub step-sound : (f : Function) (r : ℕ) (X : ℕ → Bool) → Sound f r X → (b : ℕ) → into f r X b ≡ true → (start f b < end f b) × Live f (start f b) r
 step-sound f r X snd b h =

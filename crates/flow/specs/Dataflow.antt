@@ -3,6 +3,7 @@
 -- gives exactly the live registers is proved in proofs/Fixpoint.antt.
 use Rattle.std.specs.Prelude.{Bool, true, false, not, ◌&&◌, ◌||◌, List, [], ◌∷◌, ℕ, suc, ◌-◌, length, get_or, ltb, if◌then◌else◌, filter}
 use Rattle.word.specs.Ones.{passing}
+use Rattle.std.specs.List.{list_any}
 use Rattle.flow.specs.Function.{Function, Instruction, Block, reads, writes, start, end, holds, successors}
 
 -- r before an instruction that reads it (or not) and writes it (or not), from r after it
@@ -27,13 +28,9 @@ gen f r b = back f r (start f b) (end f b - start f b) false
 unfoldable pub kill : Function → ℕ → ℕ → Bool
 kill f r b = killed f r (start f b) (end f b - start f b)
 
-abbrev pub any_of : (ℕ → Bool) → List ℕ → Bool
-any_of X [] = false
-any_of X (s ∷ ss) = X s || any_of X ss
-
 -- live-out of a block, where X says of each block whether r is live into it
 abbrev pub out : Function → (ℕ → Bool) → ℕ → Bool
-out f X b = any_of X (successors f b)
+out f X b = list_any X (successors f b)
 
 -- live-in of a block by one step of the dataflow
 abbrev pub into : Function → ℕ → (ℕ → Bool) → ℕ → Bool

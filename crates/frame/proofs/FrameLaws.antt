@@ -12,7 +12,7 @@ use Rattle.word.specs.Result.{Result, ok, refused}
 use Rattle.ty.specs.Types.{Table}
 use Rattle.word.proofs.ListLaws.{rest}
 use Rattle.trace.specs.Places.{both, handle_at, value_handles}
-use Rattle.trace.specs.Inner.Emit.{Answer, Raw, raw_of, Into, emitted, emit_all, emitting, told}
+use Rattle.trace.specs.Inner.Emit.{Raw, raw_of, Into, emitted, emit_all, emitting, told, InUse}
 use Rattle.trace.proofs.Emits.{then-words, fail-words, told-traced, told-untraceable}
 use Rattle.std.specs.Simd.{first_chunks}
 use Rattle.word.proofs.ChunkLaws.{row-part}
@@ -38,7 +38,7 @@ module _ (T : Table) (want off kind t : ℕ) (m : List ℕ) (k : Into) (s : Raw)
 
   module _ (l : off ≤ length m) where
     module _ (h : kind ≡ 2) where
-      pub entry-composite : want ≡ 0 → (r : Answer) (ms to : List ℕ) → told r ms to ≡ emitting k s (value_handles T t (take (length m - off) (drop off m))) → told r ms to ≡ emitting k s (entry_roots T want m (entry off kind t))
+      pub entry-composite : want ≡ 0 → (r : InUse) (ms to : List ℕ) → told r ms to ≡ emitting k s (value_handles T t (take (length m - off) (drop off m))) → told r ms to ≡ emitting k s (entry_roots T want m (entry off kind t))
       unfolding entry_roots
       entry-composite w r ms to er = rw (le-leb off (length m) l, eq-eqb kind 2 h, eq-eqb want 0 w) (er ∙ ap (λ (x : List ℕ). emitting k s (value_handles T t x)) (rest off m))
 
@@ -87,7 +87,7 @@ module _ (T : Table) (want : ℕ) (m map : List ℕ) (i : ℕ) (k : Into) (ms to
   unfolding entries_roots emitting emit_all
   entries-end whole h = rw (entries-last map (3 * i) (omega arith)) at inv
 
-  module _ (rows : List (List ℕ)) (parts : rows ≡ first_chunks 3 (length map / 3) map) (many : length rows ≡ length map / 3) (inside : i < length rows) (r : Answer) (ms' to' : List ℕ)
+  module _ (rows : List (List ℕ)) (parts : rows ≡ first_chunks 3 (length map / 3) map) (many : length rows ≡ length map / 3) (inside : i < length rows) (r : InUse) (ms' to' : List ℕ)
       (er : told r ms' to' ≡ emitting k (raw_of ms to n) (entry_roots T want m (entry (get_or (get_or rows i []) 0 0) (get_or (get_or rows i []) 1 0) (get_or (get_or rows i []) 2 0)))) where
     part : (h j : ℕ) → h < 3 → 3 * i + h ≡ j → get_or (get_or rows i []) h 0 ≡ get_or map j 0
     part h j a b = row-part 3 (length map / 3) map rows parts i h j [] (omega (arith, inside, many)) a b
@@ -112,6 +112,6 @@ module _ (T : Table) (want : ℕ) (map m : List ℕ) (k : Into) (s : Raw) where
   unfolding frame_roots emitting
   frame-cut h = rw (ne_eqb (length map % 3) 0 h) refl
 
-  pub frame-entries : length map % 3 ≡ 0 → (r : Answer) (ms to : List ℕ) → told r ms to ≡ emitting k s (entries_roots T want m (entries_of map)) → told r ms to ≡ emitting k s (frame_roots T want map m)
+  pub frame-entries : length map % 3 ≡ 0 → (r : InUse) (ms to : List ℕ) → told r ms to ≡ emitting k s (entries_roots T want m (entries_of map)) → told r ms to ≡ emitting k s (frame_roots T want map m)
   unfolding frame_roots
   frame-entries h r ms to er = rw (eq-eqb (length map % 3) 0 h) er

@@ -3,7 +3,7 @@ use Prim.Native.Nat.{ℕ, ◌-◌, ◌^◌, ◌≤◌, ◌<◌}
 use Rattle.std.specs.Prelude.{Some, None, Ok, Err}
 use Rattle.word.specs.Result.{Result, ok, refused}
 use Rattle.refusal.specs.declared.Refusal.TheVariants.{Untraceable as Failed, ShortList}
-use Rattle.trace.specs.Inner.Emit.{Answer, Raw, raw_of, Into, into, emit_all, emitting, told}
+use Rattle.trace.specs.Inner.Emit.{Raw, raw_of, Into, into, emit_all, emitting, told, InUse}
 use Rattle.trace.specs.declared.Sink.TheVariants.{Check, List as ToList}
 use Rattle.trace.proofs.Emits.{ok-inj, told-traced, told-untraceable}
 use Rattle.traced.proofs.ListLaws.{checked-short, checked-fits, listed}
@@ -27,19 +27,19 @@ unfolding emitting
 from-refused k s none e = refl
 from-refused k s (some ws) e = let x : ◌≡◌ {A = ℕ} 0 1 = cc in absurd (omega arith)
 
-from_told : {P : Type 0} (k : Into) (s : Raw) (o : Option (List ℕ)) (r : Answer) (ms to ws : List ℕ) → told r ms to ≡ emitting k s o → o ≡ some ws → ((n : ℕ) → raw_of ms to n ≡ emit_all k s ws → P) → P
+from_told : {P : Type 0} (k : Into) (s : Raw) (o : Option (List ℕ)) (r : InUse) (ms to ws : List ℕ) → told r ms to ≡ emitting k s o → o ≡ some ws → ((n : ℕ) → raw_of ms to n ≡ emit_all k s ws → P) → P
 unfolding emitting
 from_told k s o None ms to ws e q c = let f : refused 13 ≡ emitting k s (some ws) = e ∙ ap (emitting k s) q in let x : ◌≡◌ {A = ℕ} 0 1 = cc in absurd (omega arith)
 from_told k s o (Some n) ms to ws e q c = c n (ok-inj (e ∙ ap (emitting k s) q))
 
-module _ (R : ℕ → Result ℕ) (ms u ms' u' hs : List ℕ) (o : Option (List ℕ)) (r : Answer) (er : told r ms' u' ≡ emitting (into (Check (length hs)) R) (raw_of ms u 0) o) (ds : List ℕ) (p : Option (List ℕ)) where
+module _ (R : ℕ → Result ℕ) (ms u ms' u' hs : List ℕ) (o : Option (List ℕ)) (r : InUse) (er : told r ms' u' ≡ emitting (into (Check (length hs)) R) (raw_of ms u 0) o) (ds : List ℕ) (p : Option (List ℕ)) where
   pub handles-lost : r ≡ None → Frames (roots_listing o p (length hs) (length ds)) (Err Failed) hs ds hs ds
   unfolding roots_listing
   handles-lost e =
       let q = from-refused _ _ o (told-untraceable r ms' u' _ er e) in
       record { answer = rw q refl; handles = rw q refl; addresses = rw q refl }
 
-  module _ (nh : ℕ) (e : r ≡ Some nh) (Q : ℕ → Result ℕ) (ns v ns' v' : List ℕ) (a : Answer) (ea : told a ns' v' ≡ emitting (into (Check (length ds)) Q) (raw_of ns v 0) p) where
+  module _ (nh : ℕ) (e : r ≡ Some nh) (Q : ℕ → Result ℕ) (ns v ns' v' : List ℕ) (a : InUse) (ea : told a ns' v' ≡ emitting (into (Check (length ds)) Q) (raw_of ns v 0) p) where
     pub addresses-lost : a ≡ None → Frames (roots_listing o p (length hs) (length ds)) (Err Failed) hs ds hs ds
     unfolding roots_listing
     addresses-lost f =
@@ -71,7 +71,7 @@ module _ (R : ℕ → Result ℕ) (ms u ms' u' hs : List ℕ) (o : Option (List 
               addresses = rw (eo, ep, le-leb (length ws) (length hs) w, lt-leb (length xs) (length ds) q) refl;
             }))
 
-        pub roots-wrote : length ds < 2 ^ 64 - 1 → na ≤ length ds → (A : ℕ → Result ℕ) (as₀ as₁ hs' : List ℕ) (x : Answer) → told x as₁ hs' ≡ emitting (into ToList A) (raw_of as₀ hs 0) o → (B : ℕ → Result ℕ) (bs₀ bs₁ ds' : List ℕ) (y : Answer) → told y bs₁ ds' ≡ emitting (into ToList B) (raw_of bs₀ ds 0) p → Frames (roots_listing o p (length hs) (length ds)) (Ok (nh, na)) hs ds hs' ds'
+        pub roots-wrote : length ds < 2 ^ 64 - 1 → na ≤ length ds → (A : ℕ → Result ℕ) (as₀ as₁ hs' : List ℕ) (x : InUse) → told x as₁ hs' ≡ emitting (into ToList A) (raw_of as₀ hs 0) o → (B : ℕ → Result ℕ) (bs₀ bs₁ ds' : List ℕ) (y : InUse) → told y bs₁ ds' ≡ emitting (into ToList B) (raw_of bs₀ ds 0) p → Frames (roots_listing o p (length hs) (length ds)) (Ok (nh, na)) hs ds hs' ds'
         unfolding roots_listing
         roots-wrote d z A as₀ as₁ hs' x ex B bs₀ bs₁ ds' y ey =
             from-ok _ _ _ o (told-traced r ms' u' _ nh er e) (λ ws eo g.

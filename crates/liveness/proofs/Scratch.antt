@@ -13,7 +13,8 @@ use Rattle.word.proofs.Bools.{both-and}
 use Rattle.rows.specs.Inner.Row.{bit_in}
 use Rattle.rows.proofs.RowLaws.{or_swap as or_comm}
 use Rattle.flow.specs.Function.{Function, Instruction, Block, inst, start, end, existing, first_at, exits, successors}
-use Rattle.flow.specs.Dataflow.{any_of, out}
+use Rattle.flow.specs.Dataflow.{out}
+use Rattle.std.specs.List.{list_any}
 use Rattle.code.specs.View.{list_at, block_at}
 use Rattle.code.specs.Inner.Columns.{seen, Columns}
 use Rattle.liveness.specs.Inner.Scratch.{Outside, cell, live_at, one_below}
@@ -120,8 +121,8 @@ pub record Targets (refs : List ℕ) (to nb W : ℕ) (s₀ s : List ℕ) (i₀ i
   pub low : i₀ ≤ i
   pub high : i ≤ to
   pub frame : Outside s₀ s (nb * (3 * W)) W
-  pub cells : (q : ℕ) → q < 64 * W → any_of (live_at s₀ W nb q) (existing nb (slice i to refs)) || cell s (nb * (3 * W)) q
-      ≡ any_of (live_at s₀ W nb q) (existing nb (slice i₀ to refs)) || cell s₀ (nb * (3 * W)) q
+  pub cells : (q : ℕ) → q < 64 * W → list_any (live_at s₀ W nb q) (existing nb (slice i to refs)) || cell s (nb * (3 * W)) q
+      ≡ list_any (live_at s₀ W nb q) (existing nb (slice i₀ to refs)) || cell s₀ (nb * (3 * W)) q
 
 pub targets-none : (refs : List ℕ) (to nb W : ℕ) (s : List ℕ) (i : ℕ) → i ≤ to → Targets refs to nb W s s i i
 targets-none refs to nb W s i h = record { low = omega arith; high = h; frame = outside_refl s (nb * (3 * W)) W; cells = λ q k. refl }
@@ -142,9 +143,9 @@ module _ {refs : List ℕ} {to nb W : ℕ} {s₀ s : List ℕ} {i₀ i : ℕ} wh
             cell-before inv.frame (t * (3 * W)) q W m (omega (arith, block-fits t nb (3 * W) k)) ∙ sym (live_of s₀ W nb q t k) in
             let y : existing nb (slice i to refs) ≡ t ∷ rest =
             existing-next refs nb i to h l ∙ ap (λ (u : ℕ). if◌then◌else◌ (ltb u nb) (u ∷ rest) rest) (sym e) ∙ ap (λ (u : Bool). if◌then◌else◌ u (t ∷ rest) rest) (lt-ltb t nb k) in
-            ap (λ (u : Bool). any_of X rest || u) (b q m ∙ ap (λ (u : Bool). u || cell s (nb * (3 * W)) q) x)
-            ∙ or_swap (any_of X rest) (X t) (cell s (nb * (3 * W)) q)
-            ∙ ap (λ (u : List ℕ). any_of X u || cell s (nb * (3 * W)) q) (sym y)
+            ap (λ (u : Bool). list_any X rest || u) (b q m ∙ ap (λ (u : Bool). u || cell s (nb * (3 * W)) q) x)
+            ∙ or_swap (list_any X rest) (X t) (cell s (nb * (3 * W)) q)
+            ∙ ap (λ (u : List ℕ). list_any X u || cell s (nb * (3 * W)) q) (sym y)
             ∙ inv.cells q m);
       }
 
@@ -160,14 +161,14 @@ module _ {refs : List ℕ} {to nb W : ℕ} {s₀ s : List ℕ} {i₀ i : ℕ} wh
             (let rest : List ℕ = existing nb (slice (i + 1) to refs) in
             let y : existing nb (slice i to refs) ≡ rest =
             existing-next refs nb i to h l ∙ ap (λ (u : ℕ). if◌then◌else◌ (ltb u nb) (u ∷ rest) rest) (sym e) ∙ ap (λ (u : Bool). if◌then◌else◌ u (t ∷ rest) rest) (le-ltb t nb k) in
-            ap (λ (u : List ℕ). any_of (live_at s₀ W nb q) u || cell s (nb * (3 * W)) q) (sym y) ∙ inv.cells q m);
+            ap (λ (u : List ℕ). list_any (live_at s₀ W nb q) u || cell s (nb * (3 * W)) q) (sym y) ∙ inv.cells q m);
       })
 
   pub targets-end : Targets refs to nb W s₀ s i₀ i → to ≤ i → (q : ℕ) → q < 64 * W
-      → cell s (nb * (3 * W)) q ≡ any_of (live_at s₀ W nb q) (existing nb (slice i₀ to refs)) || cell s₀ (nb * (3 * W)) q
+      → cell s (nb * (3 * W)) q ≡ list_any (live_at s₀ W nb q) (existing nb (slice i₀ to refs)) || cell s₀ (nb * (3 * W)) q
   targets-end inv h q m =
       let e : i ≡ to = omega (arith, inv.high) in
-      sym (ap (λ (u : List ℕ). any_of (live_at s₀ W nb q) (existing nb u) || cell s (nb * (3 * W)) q) (ap (λ (u : ℕ). slice u to refs) e ∙ slice_empty to refs))
+      sym (ap (λ (u : List ℕ). list_any (live_at s₀ W nb q) (existing nb u) || cell s (nb * (3 * W)) q) (ap (λ (u : ℕ). slice u to refs) e ∙ slice_empty to refs))
       ∙ inv.cells q m
 
 pub and-left-false : (a b : Bool) → a ≡ false → a && b ≡ false
@@ -301,7 +302,7 @@ module _ {ks ends refs bs : List ℕ} (cols : Columns ks ends refs bs) (t : ℕ 
   unfolding successors f
   leave_none X h =
       let g : Function = seen t ks ends refs bs cs in
-      ap (any_of X) (cut (ltb (start g b) (end g b)) (exits g (inst g (end g b - 1)) (end g b)) [] (le-ltb (start g b) (end g b) (omega (arith, at-start, at-end))))
+      ap (list_any X) (cut (ltb (start g b) (end g b)) (exits g (inst g (end g b - 1)) (end g b)) [] (le-ltb (start g b) (end g b) (omega (arith, at-start, at-end))))
 
   opened : st < e → successors f b ≡ if◌then◌else◌ (leb 2 k && leb k 4) (existing nb (list_at ends refs (3 * (e - 1) + 2))) (if◌then◌else◌ (leb 5 k && leb k 6) [] (first_at (tabulate nb (block_at bs)) e 0))
   unfolding successors f k
@@ -320,11 +321,11 @@ module _ {ks ends refs bs : List ℕ} (cols : Columns ks ends refs bs) (t : ℕ 
 
   pub leave-targets : (X : ℕ → Bool) → st < e → 2 ≤ get_or ks (e - 1) 0 → get_or ks (e - 1) 0 ≤ 4 → (from to : ℕ)
       → from ≡ get_or ends (3 * (e - 1) + 1) 0 → to ≡ get_or ends (3 * (e - 1) + 1 + 1) 0
-      → out (seen t ks ends refs bs cs) X b ≡ any_of X (existing nb (slice from to refs))
+      → out (seen t ks ends refs bs cs) X b ≡ list_any X (existing nb (slice from to refs))
   unfolding f k
   leave-targets X h l g from to ef et =
       let z : 3 * (e - 1) + 2 ≡ 3 * (e - 1) + 1 + 1 = omega arith in
-      ap (any_of X)
+      ap (list_any X)
       (opened h
       ∙ keep _ (existing nb (list_at ends refs (3 * (e - 1) + 2))) _ (both-and _ _ (le-leb 2 (get_or ks (e - 1) 0) l) (le-leb (get_or ks (e - 1) 0) 4 g))
       ∙ ap (existing nb) (ap (list_at ends refs) z ∙ list-next ends refs (3 * (e - 1) + 1)
@@ -333,17 +334,17 @@ module _ {ks ends refs bs : List ℕ} (cols : Columns ks ends refs bs) (t : ℕ 
   pub leave-stop : (X : ℕ → Bool) → st < e → 4 < get_or ks (e - 1) 0 → get_or ks (e - 1) 0 ≤ 6 → out (seen t ks ends refs bs cs) X b ≡ false
   unfolding f k
   leave-stop X h l g =
-      ap (any_of X)
+      ap (list_any X)
       (opened h
       ∙ cut _ (existing nb (list_at ends refs (3 * (e - 1) + 2))) _ (and-right-false (leb 2 (get_or ks (e - 1) 0)) _ (lt-leb (get_or ks (e - 1) 0) 4 l))
       ∙ keep _ [] _ (both-and _ _ (le-leb 5 (get_or ks (e - 1) 0) l) (le-leb (get_or ks (e - 1) 0) 6 g)))
 
   pub leave-next : (X : ℕ → Bool) → st < e → (get_or ks (e - 1) 0 < 2) ⊎ (6 < get_or ks (e - 1) 0) → (v : ℕ)
       → first_at (tabulate nb (block_at bs)) e 0 ≡ one_below v nb
-      → out (seen t ks ends refs bs cs) X b ≡ any_of X (one_below v nb)
+      → out (seen t ks ends refs bs cs) X b ≡ list_any X (one_below v nb)
   unfolding f k
   leave-next X h d v ft =
-      ap (any_of X)
+      ap (list_any X)
       (opened h
       ∙ cut _ (existing nb (list_at ends refs (3 * (e - 1) + 2))) _
       (⊎_elim (λ l. and-left-false (leb 2 (get_or ks (e - 1) 0)) _ (lt-leb 2 (get_or ks (e - 1) 0) l))
@@ -358,11 +359,11 @@ or-false true = refl
 or-false false = refl
 
 -- the one successor of a block that goes on at its end
-pub joined-one : (s : List ℕ) (W nb q t : ℕ) → t < nb → any_of (live_at s W nb q) (one_below t nb) ≡ cell s (t * (3 * W)) q
-joined-one s W nb q t h = ap (any_of (live_at s W nb q)) (keep (ltb t nb) (t ∷ []) [] (lt-ltb t nb h)) ∙ or-false (live_at s W nb q t) ∙ live_of s W nb q t h
+pub joined-one : (s : List ℕ) (W nb q t : ℕ) → t < nb → list_any (live_at s W nb q) (one_below t nb) ≡ cell s (t * (3 * W)) q
+joined-one s W nb q t h = ap (list_any (live_at s W nb q)) (keep (ltb t nb) (t ∷ []) [] (lt-ltb t nb h)) ∙ or-false (live_at s W nb q t) ∙ live_of s W nb q t h
 
-pub joined-none : (X : ℕ → Bool) (nb t : ℕ) → nb ≤ t → any_of X (one_below t nb) ≡ false
-joined-none X nb t h = ap (any_of X) (cut (ltb t nb) (t ∷ []) [] (le-ltb t nb h))
+pub joined-none : (X : ℕ → Bool) (nb t : ℕ) → nb ≤ t → list_any X (one_below t nb) ≡ false
+joined-none X nb t h = ap (list_any X) (cut (ltb t nb) (t ∷ []) [] (le-ltb t nb h))
 
 -- ---- the live-in rows and the frames
 

@@ -3,10 +3,11 @@
 // the length after a step that lends a part of it on.
 ghost use Rattle.std.specs.Prelude.{◌≡◌, Bool, true, false, ◌||◌, List, ℕ, ◌+◌, ◌-◌, ◌*◌, ◌≤◌, ◌<◌, length, get_or};
 ghost use Rattle.flow.specs.Function.{existing};
-ghost use Rattle.flow.specs.Dataflow.{back, killed, any_of, out};
+ghost use Rattle.flow.specs.Dataflow.{back, killed, out};
 ghost use Rattle.code.specs.Inner.Plans.{part_seen, all_seen, tested};
 ghost use Rattle.liveness.specs.Inner.Scratch.{Outside, cell, live_at, turn_of, Linked, Pass, Solved, Fixed};
 ghost use Rattle.liveness.specs.Inner.Plans.{out_row, Room, StartChains, BegunIn, BuiltIn};
+ghost use Rattle.std.specs.List.{list_any};
 
 use crate::chains::{BlockChains, NO_BLOCK};
 use code::{Flow, Plan, Registers};
@@ -66,7 +67,7 @@ fn join(s: &mut [u64], dst: usize, src: usize, words: usize)
 fn join_targets(s: &mut [u64], flow: &Flow, targets: &[u32])
     requires { out_row flow.now + flow.now.words ≤ length s.old }
     ensures { Outside s.old s.new (out_row flow.now) flow.now.words × ((q : ℕ) → q < 64 * flow.now.words → cell s.new (out_row flow.now) q
-        ≡ any_of (live_at s.old flow.now.words flow.now.blocks.count q) (existing flow.now.blocks.count targets.now) || cell s.old (out_row flow.now) q) }
+        ≡ list_any (live_at s.old flow.now.words flow.now.blocks.count q) (existing flow.now.blocks.count targets.now) || cell s.old (out_row flow.now) q) }
 {
     let Flow { blocks, words, .. } = *flow;
     let nb = blocks.count;

@@ -7,7 +7,7 @@ use native.Mathlib.Nat.{sub-zero}
 use native.Mathlib.Omega.{arith}
 use Rattle.std.specs.Prelude.{Some, None}
 use Rattle.ty.specs.Types.{Table}
-use Rattle.trace.specs.Inner.Emit.{Answer, raw_of, into, resolve_in, emitting, told as told_trace}
+use Rattle.trace.specs.Inner.Emit.{raw_of, into, resolve_in, emitting, told as told_trace, InUse}
 use Rattle.trace.specs.declared.Sink.TheVariants.{Work}
 use Rattle.reach.specs.Reach.{Graph}
 use Rattle.reach.specs.Marking.{State, follow_all, pin_all, drained}
@@ -25,22 +25,22 @@ use Rattle.mark.proofs.QueueLoop.{drained-live}
 use Rattle.mark.proofs.Holding.{pins-append}
 
 -- the scratch after the frame
-pub frame-scratch : (tag slots S : ℕ) (narrow marks work : List ℕ) → Scratch slots marks work 0 → (frame : Option (List ℕ)) (r : Answer) (marks₁ work₁ : List ℕ)
+pub frame-scratch : (tag slots S : ℕ) (narrow marks work : List ℕ) → Scratch slots marks work 0 → (frame : Option (List ℕ)) (r : InUse) (marks₁ work₁ : List ℕ)
     → told_trace r marks₁ work₁ ≡ emitting (into Work (resolve_in tag slots S narrow)) (raw_of marks work 0) frame → (n : ℕ) → r ≡ Some n → Scratch slots marks₁ work₁ n
 frame-scratch tag slots S narrow marks work s frame r marks₁ work₁ t n e =
-    (subst (λ (y : Answer). Traces y slots marks₁ work₁ (following (leads_to tag slots S narrow) (state_of marks work 0) frame)) e
+    (subst (λ (y : InUse). Traces y slots marks₁ work₁ (following (leads_to tag slots S narrow) (state_of marks work 0) frame)) e
     (traces slots (resolve_in tag slots S narrow) (resolves-in tag slots S narrow) r frame marks work 0 marks₁ work₁ s t)).1
 
 module _ (T : Table) (tag slots S : ℕ) (narrow wide pool : List ℕ) (marks work : List ℕ) (s : Scratch slots marks work 0) (frame : Option (List ℕ)) (values sealed pins : List ℕ)
-    (r : Answer) (marks₁ work₁ : List ℕ) (t : told_trace r marks₁ work₁ ≡ emitting (into Work (resolve_in tag slots S narrow)) (raw_of marks work 0) frame) where
+    (r : InUse) (marks₁ work₁ : List ℕ) (t : told_trace r marks₁ work₁ ≡ emitting (into Work (resolve_in tag slots S narrow)) (raw_of marks work 0) frame) where
   abbrev G : Graph
   G = held_in T tag slots S narrow wide pool
 
   traced : Traces r slots marks₁ work₁ (following (leads_to tag slots S narrow) (state_of marks work 0) frame)
   traced = traces slots (resolve_in tag slots S narrow) (resolves-in tag slots S narrow) r frame marks work 0 marks₁ work₁ s t
 
-  at : (x : Answer) → r ≡ x → Traces x slots marks₁ work₁ (following (leads_to tag slots S narrow) (state_of marks work 0) frame)
-  at x e = subst (λ (y : Answer). Traces y slots marks₁ work₁ (following (leads_to tag slots S narrow) (state_of marks work 0) frame)) e traced
+  at : (x : InUse) → r ≡ x → Traces x slots marks₁ work₁ (following (leads_to tag slots S narrow) (state_of marks work 0) frame)
+  at x e = subst (λ (y : InUse). Traces y slots marks₁ work₁ (following (leads_to tag slots S narrow) (state_of marks work 0) frame)) e traced
 
   -- the frame map fails
   pub frame-stuck : r ≡ None → joined_from (held_in T tag slots S narrow wide pool) slots (state_of marks work 0) frame values sealed pins ≡ none
@@ -53,7 +53,7 @@ module _ (T : Table) (tag slots S : ℕ) (narrow wide pool : List ℕ) (marks wo
   -- all is marked, or a reached object can't be traced
   pub frame-marked : (n : ℕ) → r ≡ Some n → (words : List ℕ) → ((hs : List ℕ) → frame ≡ some hs → words ≡ pins) → (marks₂ work₂ : List ℕ) (m : ℕ)
       → Holds slots marks₂ work₂ m (seeded_from (leads_to tag slots S narrow) (in_use slots) (state_of marks₁ work₁ n) values sealed words)
-      → (a : Answer) (marks₃ work₃ : List ℕ) → Traces a slots marks₃ work₃ (drained (graph_in T tag slots S narrow wide pool) (slots - 0) (state_of marks₂ work₂ m) 0)
+      → (a : InUse) (marks₃ work₃ : List ℕ) → Traces a slots marks₃ work₃ (drained (graph_in T tag slots S narrow wide pool) (slots - 0) (state_of marks₂ work₂ m) 0)
       → Traces a slots marks₃ work₃ (joined_from (held_in T tag slots S narrow wide pool) slots (state_of marks work 0) frame values sealed pins)
   frame-marked n e words known marks₂ work₂ m held a marks₃ work₃ d = go frame known (at (Some n) e).0
     where

@@ -6,7 +6,7 @@ use mathlib.Core.Option.{Option, none, some}
 use mathlib.Core.List.{List, ◌++◌}
 use lib.ListN.{length, take, drop}
 use native.Mathlib.Omega.{arith}
-use Rattle.trace.specs.Inner.Emit.{Answer}
+use Rattle.trace.specs.Inner.Emit.{InUse}
 use Rattle.std.specs.Prelude.{Some, None}
 use Rattle.word.specs.Result.{ok, refused}
 use Rattle.word.specs.Run.{run}
@@ -31,7 +31,7 @@ module _ (h : Heap) (narrow wide pool : List ℕ) (wf : well_formed (lent h narr
   abbrev S : ℕ
   S = length narrow / 6
 
-  module _ (roots : List ℕ) (r : Answer) (marks' work' : List ℕ)
+  module _ (roots : List ℕ) (r : InUse) (marks' work' : List ℕ)
       (t : Traces r h.slots marks' work' (drained (graph_in T h.tag h.slots (length narrow / 6) narrow wide pool) h.slots
       (seeded_from (leads_to h.tag h.slots (length narrow / 6) narrow) (live_in h.slots (run (length narrow / 6) (length narrow / 6) narrow)) (state_of (take h.slots marks) work 0) roots sealed pins) 0)) where
     pub heap-stuck : r ≡ None → refused 13 ≡ marks_in (length marks) (heap_marks T (view (lent h narrow wide pool)) roots pins)
@@ -44,10 +44,10 @@ module _ (h : Heap) (narrow wide pool : List ℕ) (wf : well_formed (lent h narr
         whole-marked h.slots marks work ready (graph_in T h.tag h.slots S narrow wide pool) roots sealed pins r marks' work' t n e
         ∙ ap (marks_in (length marks)) (formed-marks h narrow wide pool wf T roots sealed pins es)
 
-  module _ (frame : Option (List ℕ)) (values : List ℕ) (r : Answer) (marks' work' : List ℕ)
+  module _ (frame : Option (List ℕ)) (values : List ℕ) (r : InUse) (marks' work' : List ℕ)
       (t : Traces r h.slots marks' work' (joined_from (held_in T h.tag h.slots (length narrow / 6) narrow wide pool) h.slots (state_of (take h.slots marks) work 0) frame values sealed pins)) where
-    at-answer : (x : Answer) → r ≡ x → Traces x h.slots marks' work' (joined_from (held_in T h.tag h.slots S narrow wide pool) h.slots (state_of (take h.slots marks) work 0) frame values sealed pins)
-    at-answer x e = subst (λ (y : Answer). Traces y h.slots marks' work' (joined_from (held_in T h.tag h.slots S narrow wide pool) h.slots (state_of (take h.slots marks) work 0) frame values sealed pins)) e t
+    at-answer : (x : InUse) → r ≡ x → Traces x h.slots marks' work' (joined_from (held_in T h.tag h.slots S narrow wide pool) h.slots (state_of (take h.slots marks) work 0) frame values sealed pins)
+    at-answer x e = subst (λ (y : InUse). Traces y h.slots marks' work' (joined_from (held_in T h.tag h.slots S narrow wide pool) h.slots (state_of (take h.slots marks) work 0) frame values sealed pins)) e t
 
     pub joined-stuck : r ≡ None → refused 13 ≡ marks_in (length marks) (joined_marks T (view (lent h narrow wide pool)) frame values pins)
     joined-stuck e = go frame (at-answer None e)
@@ -77,7 +77,7 @@ module _ (v : View) (x : Laid) (e : x ≡ laid_in v) (marks work : List ℕ) (re
       subst (λ (y : Laid). Scratch y.slots (take v.heap.slots marks) work 0) (sym e) (ready-scratch v.heap.slots marks work ready (formed-few v.heap v.narrow.now v.wide.now v.pool.now v.formed))
 
   module _ (T : Table) (sealed : List ℕ) (es : sealed ≡ (state v).sealed) (pins : List ℕ) where
-    module _ (roots : List ℕ) (r : Answer) (marks' work' : List ℕ)
+    module _ (roots : List ℕ) (r : InUse) (marks' work' : List ℕ)
         (t : Traces r x.slots marks' work' (drained (graph_in T x.tag x.slots x.S x.narrow x.wide x.pool) x.slots
         (seeded_from (leads_to x.tag x.slots x.S x.narrow) (live_in x.slots (run x.S x.S x.narrow)) (state_of (take v.heap.slots marks) work 0) roots sealed pins) 0)) where
       abbrev InPlace : Laid → Type 0
@@ -91,7 +91,7 @@ module _ (v : View) (x : Laid) (e : x ≡ laid_in v) (marks work : List ℕ) (re
       pub laid-marked : (n : ℕ) → r ≡ Some n → ok (marks' ++ drop v.heap.slots marks) ≡ marks_in (length marks) (heap_marks T (state v) roots pins)
       laid-marked = heap-marked v.heap v.narrow.now v.wide.now v.pool.now v.formed marks work ready T sealed es pins roots r marks' work' (subst InPlace e t)
 
-    module _ (frame : Option (List ℕ)) (values : List ℕ) (r : Answer) (marks' work' : List ℕ)
+    module _ (frame : Option (List ℕ)) (values : List ℕ) (r : InUse) (marks' work' : List ℕ)
         (t : Traces r x.slots marks' work' (joined_from (held_in T x.tag x.slots x.S x.narrow x.wide x.pool) x.slots (state_of (take v.heap.slots marks) work 0) frame values sealed pins)) where
       abbrev InJoined : Laid → Type 0
       InJoined y = Traces r y.slots marks' work' (joined_from (held_in T y.tag y.slots y.S y.narrow y.wide y.pool) y.slots (state_of (take v.heap.slots marks) work 0) frame values sealed pins)

@@ -10,7 +10,7 @@ use lib.Dec.{ltb}
 use borrow.Author.Tests.{lt-ltb, le-ltb}
 use native.Mathlib.Numerals.{add-one}
 use native.Mathlib.Omega.{arith}
-use Rattle.trace.specs.Inner.Emit.{Answer}
+use Rattle.trace.specs.Inner.Emit.{InUse}
 use Rattle.std.specs.Prelude.{Option as Maybe, Some, None}
 use Rattle.word.specs.Result.{ok, refused}
 use Rattle.word.proofs.ListLaws.{take-zeros}
@@ -123,19 +123,19 @@ draining-start G slots q from s = record { loans = same-again q; scratch = s; sa
 
 -- ---- what a trace answers
 
-module _ (slots : ℕ) (q q' : Queue) (o : Option State) (l : SameLoans q q') (r : Answer) (t : Traces r slots q'.marks.now q'.work.now o) (f : NotedBy r q.work.now q'.work.now) where
+module _ (slots : ℕ) (q q' : Queue) (o : Option State) (l : SameLoans q q') (r : InUse) (t : Traces r slots q'.marks.now q'.work.now o) (f : NotedBy r q.work.now q'.work.now) where
   pub trace-reaches : r ≡ Some q'.n → (u : Unit) → Reaches slots q q' (Some u) o
   trace-reaches e u =
       record {
         loans = l;
-        traces = subst (λ (x : Answer). Traces x slots q'.marks.now q'.work.now o) e t;
-        noted = subst (λ (x : Answer). NotedBy x q.work.now q'.work.now) e f;
+        traces = subst (λ (x : InUse). Traces x slots q'.marks.now q'.work.now o) e t;
+        noted = subst (λ (x : InUse). NotedBy x q.work.now q'.work.now) e f;
       }
 
   pub trace-stops : r ≡ None → (x : Maybe Unit) → x ≡ None → Reaches slots q q' x o
   trace-stops e x z =
       subst (λ (y : Maybe Unit). Reaches slots q q' y o) (sym z)
-      (record { loans = l; traces = subst (λ (y : Answer). Traces y slots q'.marks.now q'.work.now o) e t; noted = tt })
+      (record { loans = l; traces = subst (λ (y : InUse). Traces y slots q'.marks.now q'.work.now o) e t; noted = tt })
 
 module _ (slots : ℕ) (q q' : Queue) (r : Maybe Unit) (o : Option State) (t : Reaches slots q q' r o) where
   pub reached : (u : Unit) → r ≡ Some u → Traces (Some q'.n) slots q'.marks.now q'.work.now o
@@ -189,7 +189,7 @@ module _ (slots : ℕ) (marks work : List ℕ) (ready : Ready slots marks work) 
   pub first-long : slots ≡ length (take slots marks)
   first-long = sym (length-take-le slots marks ready.marked)
 
-  module _ (G : Graph) (roots sealed pins : List ℕ) (r : Answer) (marks' work' : List ℕ)
+  module _ (G : Graph) (roots sealed pins : List ℕ) (r : InUse) (marks' work' : List ℕ)
       (t : Traces r slots marks' work' (drained G slots (seeded_from G.resolve G.live (state_of (take slots marks) work 0) roots sealed pins) 0)) where
     abbrev start : Option State
     start = drained G slots (seeded_from G.resolve G.live (state_of (take slots marks) work 0) roots sealed pins) 0
@@ -202,8 +202,8 @@ module _ (slots : ℕ) (marks work : List ℕ) (ready : Ready slots marks work) 
     as-marking =
         ap (λ (m : List ℕ). drained G slots (seeded_from G.resolve G.live (record { marks = m; queue = [] }) roots sealed pins) 0) first-clear
 
-    at : (x : Answer) → r ≡ x → Traces x slots marks' work' answer
-    at x e = subst (λ (o : Option State). Traces x slots marks' work' o) as-marking (subst (λ (y : Answer). Traces y slots marks' work' start) e t)
+    at : (x : InUse) → r ≡ x → Traces x slots marks' work' answer
+    at x e = subst (λ (o : Option State). Traces x slots marks' work' o) as-marking (subst (λ (y : InUse). Traces y slots marks' work' start) e t)
 
     pub whole-stuck : r ≡ None → refused 13 ≡ marks_in (length marks) (marking G (starts_of roots sealed pins) slots)
     whole-stuck e = sym (ap (marks_in (length marks)) (at None e))

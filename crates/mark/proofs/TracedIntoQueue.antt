@@ -20,7 +20,7 @@ use Rattle.handle.specs.Inner.Columns.{live_in}
 use Rattle.heap.specs.Packing.{data_at}
 use Rattle.ty.specs.Types.{Table}
 use Rattle.trace.specs.Places.{handles_of}
-use Rattle.trace.specs.Inner.Emit.{Answer, Raw, raw_of, into, resolve_in, over, queued, queued_if, emitted_by, emitted, emit_all, emitting, told}
+use Rattle.trace.specs.Inner.Emit.{Raw, raw_of, into, resolve_in, over, queued, queued_if, emitted_by, emitted, emit_all, emitting, told, InUse}
 use Rattle.trace.specs.declared.Sink.TheVariants.{Work}
 use Rattle.trace.proofs.Emits.{queue-marked, queue-room, ok-inj}
 use Rattle.reach.specs.Marking.{State, visit, visit_maybe, follow, follow_all, pin_if, pin_all}
@@ -81,7 +81,7 @@ module _ (n : ℕ) where
         let b = all-holds hs r.marks r.words r.count a.scratch in
         record { state = b.state ∙ ap (λ (t : State). follow_all lead t hs) a.state; scratch = b.scratch }
 
-    pub traces : (r : Answer) (o : Option (List ℕ)) (marks words : List ℕ) (c : ℕ) (marks' words' : List ℕ) → Scratch n marks words c → told r marks' words' ≡ emitting (into Work R) (raw_of marks words c) o
+    pub traces : (r : InUse) (o : Option (List ℕ)) (marks words : List ℕ) (c : ℕ) (marks' words' : List ℕ) → Scratch n marks words c → told r marks' words' ≡ emitting (into Work R) (raw_of marks words c) o
         → Traces r n marks' words' (following (λ x. found (R x)) (state_of marks words c) o)
     unfolding emitting
     traces (Some k) none marks words c marks' words' s t = let x : ◌≡◌ {A = ℕ} 0 1 = cc in absurd (omega arith)
@@ -120,7 +120,7 @@ module _ (n : ℕ) (few : n ≤ 16777216) where
     unfolding emit_all
     emit-noted h marks words c marks' words' c' e = ap (λ (r : Raw). map high r.words) e ∙ all_noted (h ∷ []) (raw_of marks words c)
 
-    pub trace-noted : (r : Answer) (o : Option (List ℕ)) (marks words : List ℕ) (c : ℕ) (marks' words' : List ℕ) → told r marks' words' ≡ emitting (into Work R) (raw_of marks words c) o → NotedBy r words words'
+    pub trace-noted : (r : InUse) (o : Option (List ℕ)) (marks words : List ℕ) (c : ℕ) (marks' words' : List ℕ) → told r marks' words' ≡ emitting (into Work R) (raw_of marks words c) o → NotedBy r words words'
     unfolding emitting
     trace-noted None o marks words c marks' words' t = tt
     trace-noted (Some k) none marks words c marks' words' t = let x : ◌≡◌ {A = ℕ} 0 1 = cc in absurd (omega arith)
@@ -191,7 +191,7 @@ module _ (slots S : ℕ) (narrow wide pool : List ℕ) (fit : Fit slots S narrow
       let inside : i < S = omega (arith, fit.runs.used) in
       λ j. handles_of T (sym (run-get S S narrow i inside) j) (sym (run-get S (2 * S) narrow i inside) j) (sym (first-get S wide i inside) j) (ed j)
 
-  module _ (tag : ℕ) (marks words : List ℕ) (c : ℕ) (s : Scratch slots marks words c) (r : Answer) (marks' words' : List ℕ)
+  module _ (tag : ℕ) (marks words : List ℕ) (c : ℕ) (s : Scratch slots marks words c) (r : InUse) (marks' words' : List ℕ)
       (e : told r marks' words' ≡ emitting (into Work (resolve_in tag slots S narrow)) (raw_of marks words c) (handles_of T (get_or narrow (S + i) 0) (get_or narrow (2 * S + i) 0) (get_or wide i 0) d)) where
     pub shown-traces : Traces r slots marks' words' (following (leads_to tag slots S narrow) (state_of marks words c) (shown_in T S narrow wide pool i))
     shown-traces =

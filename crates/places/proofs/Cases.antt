@@ -6,8 +6,8 @@ use mathlib.Core.List.{[]}
 use lib.ListN.{replicate}
 use Rattle.word.specs.Le.{le}
 use Rattle.ty.specs.Types.{Table}
-use Rattle.trace.specs.Places.{rising, handles_places, kind_places, words_at, handles_of}
+use Rattle.trace.specs.Places.{handles_places, kind_places, words_at, handles_of, eight_apart}
 
 pub before-start : (T : Table) → handles_of T 3 0 8 (replicate 39 0) ≡ some []
-unfolding handles_of kind_places handles_places rising words_at le
+unfolding handles_of kind_places handles_places eight_apart words_at le
 before-start T = refl

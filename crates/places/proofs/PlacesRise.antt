@@ -9,7 +9,7 @@ use Rattle.ty.specs.DescSize.{desc_size}
 use Rattle.layout.specs.Layout.{Lay, laid, on_bytes, dims_of, under, used_by, placed, end_of, array_laid, array_of, record_of, scalar_laid, layout_by, layout_at, layout_of}
 use Rattle.layout.specs.Offsets.{offsets_from, offsets_of, fields_of}
 use Rattle.refusal.specs.declared.Refusal.TheVariants.{TooLarge}
-use Rattle.trace.specs.Places.{Places, Below, only_if, both, many, turns, if_laid, if_bytes, part_places, field_places, places_by, places_at, object_places, rising, handles_places, kind_places, handle_at, words_at, handles_of}
+use Rattle.trace.specs.Places.{Places, Below, only_if, both, many, turns, if_laid, if_bytes, part_places, field_places, places_by, places_at, object_places, handles_places, kind_places, handle_at, words_at, handles_of, eight_apart}
 use Rattle.trace.specs.Inner.Walk.{if_placed, walk}
 use Rattle.trace.specs.declared.tracer.Placed.{Placed}
 use Rattle.trace.proofs.Walks.{walk_is}
@@ -275,8 +275,8 @@ module _ (T : Table) (end : ℕ) (small : ShortConstants T) where
 
 -- ---- objects
 
-rising-apart : (n lo at hi : ℕ) → lo ≤ at → lo ≤ hi → at + 8 * n ≤ hi ⊎ (n ≡ 0) → Apart lo hi (rising n at)
-unfolding rising
+rising-apart : (n lo at hi : ℕ) → lo ≤ at → lo ≤ hi → at + 8 * n ≤ hi ⊎ (n ≡ 0) → Apart lo hi (eight_apart n at)
+unfolding eight_apart
 rising-apart zero lo at hi l h f = h
 rising-apart (suc n) lo at hi l h (inl f) = let m : 8 * suc n ≡ 8 * n + 8 = mul-suc 8 n in (l, rising-apart n (at + 8) (at + 8) hi (omega arith) (omega arith) (inl (omega arith)))
 rising-apart (suc n) lo at hi l h (inr f) = absurd (omega arith)
@@ -285,7 +285,7 @@ handles-apart : (n : ℕ) → Apart 0 n (handles_places n)
 unfolding handles_places
 handles-apart n = go (dec_lt n 24)
   where
-    go : Dec (n < 24) → Apart 0 n (rising ((n - 24) / 8) 24)
+    go : Dec (n < 24) → Apart 0 n (eight_apart ((n - 24) / 8) 24)
     go (yes h) = rising-apart ((n - 24) / 8) 0 24 n (omega arith) (omega arith) (inr (omega arith))
     go (no h) = rising-apart ((n - 24) / 8) 0 24 n (omega arith) (omega arith) (inl (omega arith))
 

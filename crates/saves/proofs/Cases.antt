@@ -10,7 +10,7 @@ use Rattle.handle.specs.Handle.{packed, tag_of, index_of, generation_of, resolve
 use Rattle.ty.specs.Types.{Table}
 use Rattle.ty.specs.Walks.{handles_by, handles_at}
 use Rattle.ty.specs.DescSize.{desc_by, desc_at}
-use Rattle.trace.specs.Places.{object_places, rising, handles_places, kind_places, shown_places}
+use Rattle.trace.specs.Places.{object_places, handles_places, kind_places, shown_places, eight_apart}
 use Rattle.reach.specs.Marking.{visit, follow, drained, marking}
 use Rattle.heap.specs.State.{Slot, State}
 use Rattle.heap.specs.Calls.{resolve}
@@ -73,5 +73,5 @@ told :
     ∷ ordering table (one 7) (other 7) [] (to 2 ∷ [])
     ∷ []
     ≡ ok Equal ∷ ok Less ∷ ok Greater ∷ refused 13 ∷ refused 13 ∷ []
-unfolding ordering heap_model object_of slot_places shown_places kind_places object_places handles_places rising outside in_place le packed tag_of index_of generation_of resolve resolve_by marking drained visit follow heap_order encoding met onward handles_by handles_at desc_by desc_at
+unfolding ordering heap_model object_of slot_places shown_places kind_places object_places handles_places eight_apart outside in_place le packed tag_of index_of generation_of resolve resolve_by marking drained visit follow heap_order encoding met onward handles_by handles_at desc_by desc_at
 told = refl

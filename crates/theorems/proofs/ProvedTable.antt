@@ -11,10 +11,10 @@ use Rattle.ty.specs.Words.{word_of, rank}
 use Rattle.ty.specs.Scalars.{scalar_size, narrow, elem_size, logic_leaf, leaf_by}
 use Rattle.layout.specs.Layout.{dim_len, dims_of, under, array_laid, array_of, placed, end_of, record_of, layout_by, layout_at, layout_of}
 use Rattle.layout.specs.Offsets.{offsets_from, offsets_of}
-use Rattle.trace.specs.Places.{rising, handles_places, kind_places, words_at, handles_of}
+use Rattle.trace.specs.Places.{handles_places, kind_places, words_at, handles_of, eight_apart}
 use Rattle.theorems.specs.TableLayouts.{dim, sample, nested, answered, cases}
 use Rattle.theorems.specs.ProvedTable.{laid, handles_in, table, all_right}
 
 pub table-holds : all_right table ≡ true
-unfolding all_right all same_list table laid handles_in packed resolve new resolve_by tag_of index_of generation_of handles_of kind_places handles_places rising words_at le bytes cases dim sample nested answered layout_of layout_at layout_by array_of array_laid dims_of word_of dim_len rank align_up under elem_size scalar_size narrow logic_leaf leaf_by record_of end_of placed offsets_of offsets_from
+unfolding all_right all same_list table laid handles_in packed resolve new resolve_by tag_of index_of generation_of handles_of kind_places handles_places eight_apart words_at le bytes cases dim sample nested answered layout_of layout_at layout_by array_of array_laid dims_of word_of dim_len rank align_up under elem_size scalar_size narrow logic_leaf leaf_by record_of end_of placed offsets_of offsets_from
 table-holds = refl

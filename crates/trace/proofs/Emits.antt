@@ -20,7 +20,7 @@ use Rattle.trace.specs.Inner.Walk.{Stepped}
 use Rattle.beside.specs.declared.Met.{Met}
 use Rattle.beside.specs.Inner.Ranks.{place_in}
 use Rattle.beside.specs.Inner.Found.{found_at}
-use Rattle.trace.specs.Inner.Emit.{Answer, Raw, raw_of, Into, into, slots_resolve, over, queued, queued_if, emitted_by, emitted, emit_all, emitting, Aim, words_to, aim, other_of, handed, handed_all, handing_at, told}
+use Rattle.trace.specs.Inner.Emit.{Raw, raw_of, Into, into, slots_resolve, over, queued, queued_if, emitted_by, emitted, emit_all, emitting, Aim, words_to, aim, other_of, handed, handed_all, handing_at, told, InUse}
 use Rattle.trace.specs.declared.Sink.{Sink}
 use Rattle.trace.specs.declared.Sink.TheVariants.{Check, List as ToList, Work}
 use Rattle.trace.specs.declared.Goal.{Goal}
@@ -166,11 +166,11 @@ module _ (k : Into) (v : List ℕ) where
   words-at s (some ps) = ap {B = Result Raw} ok (words-all s ps)
 
 -- the answer, taken apart
-pub told-traced : (r : Answer) (ms to : List ℕ) (o : Result Raw) (m : ℕ) → told r ms to ≡ o → r ≡ Some m → ok (raw_of ms to m) ≡ o
-told-traced r ms to o m t e = subst (λ (x : Answer). told x ms to ≡ o) e t
+pub told-traced : (r : InUse) (ms to : List ℕ) (o : Result Raw) (m : ℕ) → told r ms to ≡ o → r ≡ Some m → ok (raw_of ms to m) ≡ o
+told-traced r ms to o m t e = subst (λ (x : InUse). told x ms to ≡ o) e t
 
-pub told-untraceable : (r : Answer) (ms to : List ℕ) (o : Result Raw) → told r ms to ≡ o → r ≡ None → refused 13 ≡ o
-told-untraceable r ms to o t e = subst (λ (x : Answer). told x ms to ≡ o) e t
+pub told-untraceable : (r : InUse) (ms to : List ℕ) (o : Result Raw) → told r ms to ≡ o → r ≡ None → refused 13 ≡ o
+told-untraceable r ms to o t e = subst (λ (x : InUse). told x ms to ≡ o) e t
 
 -- ---- many values
 
@@ -246,7 +246,7 @@ module _ (k : Aim) (v : List ℕ) (f : ℕ → Places) (st n i o m : ℕ) (ms to
   pub elems-beyond : i < n → length v < o → refused 13 ≡ G
   elems-beyond h l = emit-none k v (raw_of ms to m) _ (many-beyond (length v) f st (n - i) o (omega arith) l) ∙ inv
 
-  module _ (h : i < n) (l : o ≤ length v) (r : Answer) (ms' to' : List ℕ) (er : told r ms' to' ≡ handing_at k v (raw_of ms to m) (f o)) where
+  module _ (h : i < n) (l : o ≤ length v) (r : InUse) (ms' to' : List ℕ) (er : told r ms' to' ≡ handing_at k v (raw_of ms to m) (f o)) where
     turn : handing_at k v (raw_of ms to m) (both (f o) (many (length v) f st (n - i - 1) (o + st))) ≡ G
     turn = ap (handing_at k v (raw_of ms to m)) (sym (many-cons (length v) f st (n - i) o (omega arith) l)) ∙ inv
 

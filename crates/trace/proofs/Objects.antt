@@ -7,8 +7,8 @@ use Rattle.ty.specs.Types.{Table}
 use Rattle.ty.specs.Walks.{has_handles}
 use Rattle.ty.specs.declared.Table.{Table as Lent}
 use Rattle.ty.specs.View.{types_of}
-use Rattle.trace.specs.Places.{places_at, object_places, rising, handles_places, kind_places}
-use Rattle.trace.specs.Inner.Emit.{Answer, Raw, Aim, handed, handed_all, handing_at, told}
+use Rattle.trace.specs.Places.{places_at, object_places, handles_places, kind_places, eight_apart}
+use Rattle.trace.specs.Inner.Emit.{Raw, Aim, handed, handed_all, handing_at, told, InUse}
 use Rattle.trace.proofs.Emits.{emit-none, emit-nil}
 use Rattle.ty.specs.DescSize.{desc_size}
 use Rattle.ty.specs.Inner.Lent.{lent}
@@ -35,34 +35,34 @@ module _ (T : Lent) (t : ℕ) (v : List ℕ) (k : Aim) (s : Raw) (x : Bool) (ex 
     unfolding object_places
     object-cut n h l = emit-none k v s _ (rw (← ex, o, ← ez, h, lt-leb n (length v) l) refl)
 
-    pub object-whole : (n : ℕ) → z ≡ Some n → n ≤ length v → (r : Answer) (ms to : List ℕ) → told r ms to ≡ handing_at k v s (places_at (lent T) (length v) 65 t (take n v) n) → told r ms to ≡ handing_at k v s (object_places (lent T) t v)
+    pub object-whole : (n : ℕ) → z ≡ Some n → n ≤ length v → (r : InUse) (ms to : List ℕ) → told r ms to ≡ handing_at k v s (places_at (lent T) (length v) 65 t (take n v) n) → told r ms to ≡ handing_at k v s (object_places (lent T) t v)
     unfolding object_places
     object-whole n h l r ms to er = rw (← ex, o, ← ez, h, le-leb n (length v) l) er
 
 -- ---- a Handles object of c handles: those from the i-th on are still to come
 
-pub handles-first : (k : Aim) (v : List ℕ) (s : Raw) (c : ℕ) → c ≡ (length v - 24) / 8 → handed_all k v s (rising (c - 0) (24 + 8 * 0)) ≡ handed_all k v s (handles_places (length v))
+pub handles-first : (k : Aim) (v : List ℕ) (s : Raw) (c : ℕ) → c ≡ (length v - 24) / 8 → handed_all k v s (eight_apart (c - 0) (24 + 8 * 0)) ≡ handed_all k v s (handles_places (length v))
 unfolding handles_places
-handles-first k v s c e = let z : c - 0 ≡ (length v - 24) / 8 = omega arith in ap (λ (n : ℕ). handed_all k v s (rising n 24)) z
+handles-first k v s c e = let z : c - 0 ≡ (length v - 24) / 8 = omega arith in ap (λ (n : ℕ). handed_all k v s (eight_apart n 24)) z
 
-module _ (k : Aim) (v : List ℕ) (c i : ℕ) (s G : Raw) (inv : handed_all k v s (rising (c - i) (24 + 8 * i)) ≡ G) where
+module _ (k : Aim) (v : List ℕ) (c i : ℕ) (s G : Raw) (inv : handed_all k v s (eight_apart (c - i) (24 + 8 * i)) ≡ G) where
   pub handles-end : c ≤ i → s ≡ G
-  unfolding rising handed_all
+  unfolding eight_apart handed_all
   handles-end h = let z : c - i ≡ 0 = omega arith in rw z at inv
 
-  pub handles-next : i < c → (t : Raw) → t ≡ handed k v s (24 + 8 * i) → handed_all k v t (rising (c - (i + 1)) (24 + 8 * (i + 1))) ≡ G
-  unfolding rising handed_all
+  pub handles-next : i < c → (t : Raw) → t ≡ handed k v s (24 + 8 * i) → handed_all k v t (eight_apart (c - (i + 1)) (24 + 8 * (i + 1))) ≡ G
+  unfolding eight_apart handed_all
   handles-next l t et =
       let z : c - i ≡ suc (c - (i + 1)) = omega arith in
       let y : 24 + 8 * (i + 1) ≡ 24 + 8 * i + 8 = omega arith in
-      ap (λ (u : Raw). handed_all k v u (rising (c - (i + 1)) (24 + 8 * (i + 1)))) et
-      ∙ ap (λ (a : ℕ). handed_all k v (handed k v s (24 + 8 * i)) (rising (c - (i + 1)) a)) y
+      ap (λ (u : Raw). handed_all k v u (eight_apart (c - (i + 1)) (24 + 8 * (i + 1)))) et
+      ∙ ap (λ (a : ℕ). handed_all k v (handed k v s (24 + 8 * i)) (eight_apart (c - (i + 1)) a)) y
       ∙ (rw z at inv)
 
 -- ---- visible data by its kind
 
 module _ (T : Table) (kind t : ℕ) (v : List ℕ) (k : Aim) (s : Raw) where
-  pub kind-typed : kind ≡ 1 → (r : Answer) (ms to : List ℕ) → told r ms to ≡ handing_at k v s (object_places T t v) → told r ms to ≡ handing_at k v s (kind_places T kind t v)
+  pub kind-typed : kind ≡ 1 → (r : InUse) (ms to : List ℕ) → told r ms to ≡ handing_at k v s (object_places T t v) → told r ms to ≡ handing_at k v s (kind_places T kind t v)
   unfolding kind_places
   kind-typed h r ms to er = rw (eq-eqb kind 1 h) er
 

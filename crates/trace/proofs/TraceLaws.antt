@@ -34,7 +34,7 @@ use Rattle.trace.specs.declared.tracer.Leaf.{Leaf}
 use Rattle.trace.specs.declared.tracer.Leaf.TheVariants.{Own, Free, Deep}
 use Rattle.word.specs.Result.{Result, ok, refused}
 use Rattle.std.proofs.lemmas.Bool.{false≢true}
-use Rattle.trace.specs.Inner.Emit.{Answer, Raw, raw_of, Aim, handing_at, told}
+use Rattle.trace.specs.Inner.Emit.{Raw, raw_of, Aim, handing_at, told, InUse}
 use Rattle.trace.specs.declared.tracer.Placed.{Placed}
 use Rattle.trace.proofs.Emits.{then_some, then-none, emit-none, emit-nil, told-traced, told-untraceable, many-end, many-ext, many-none, many-one}
 use Rattle.trace.proofs.Walks.{walk_is}
@@ -92,15 +92,15 @@ module _ (T : Lent) (left t : ℕ) (d : List ℕ) (at : ℕ) (k : Aim) (v : List
       unfolding read_ty
       level = rw (row o, ee) refl
 
-      pub in-access : e ≡ Access → (r : Answer) (ms to : List ℕ) → told r ms to ≡ handing_at k v s (only_if (leb (at + 8) (length v)) (some (at ∷ []))) → told r ms to ≡ handing_at k v s (places_at (lent T) (length v) left t d at)
+      pub in-access : e ≡ Access → (r : InUse) (ms to : List ℕ) → told r ms to ≡ handing_at k v s (only_if (leb (at + 8) (length v)) (some (at ∷ []))) → told r ms to ≡ handing_at k v s (places_at (lent T) (length v) left t d at)
       unfolding places_by read_entry
       in-access q r ms to er = rw (level, q) er
 
-      pub in-protected : e ≡ Protected → (r : Answer) (ms to : List ℕ) → told r ms to ≡ handing_at k v s (only_if (leb (at + 8) (length v)) (some (at ∷ []))) → told r ms to ≡ handing_at k v s (places_at (lent T) (length v) left t d at)
+      pub in-protected : e ≡ Protected → (r : InUse) (ms to : List ℕ) → told r ms to ≡ handing_at k v s (only_if (leb (at + 8) (length v)) (some (at ∷ []))) → told r ms to ≡ handing_at k v s (places_at (lent T) (length v) left t d at)
       unfolding places_by read_entry
       in-protected q r ms to er = rw (level, q) er
 
-      pub in_array : (el c j : ℕ) → e ≡ Array el c j → (r : Answer) (ms to : List ℕ) → told r ms to ≡ handing_at k v s (if_laid (array_of (lent T) (layout_at (lent T) 64) t el c j d) (λ st n. many (length v) (part_places (lent T) (places_at (lent T) (length v) (left - 1)) el c (drop (24 * j) d)) st (turns st n) at)) → told r ms to ≡ handing_at k v s (places_at (lent T) (length v) left t d at)
+      pub in_array : (el c j : ℕ) → e ≡ Array el c j → (r : InUse) (ms to : List ℕ) → told r ms to ≡ handing_at k v s (if_laid (array_of (lent T) (layout_at (lent T) 64) t el c j d) (λ st n. many (length v) (part_places (lent T) (places_at (lent T) (length v) (left - 1)) el c (drop (24 * j) d)) st (turns st n) at)) → told r ms to ≡ handing_at k v s (places_at (lent T) (length v) left t d at)
       unfolding places_by read_entry layout_of
       in_array el c j q r ms to er =
           let l : array_of (lent T) (layout_at (lent T) 64) t el c j d ≡ layout_at (lent T) 65 t d = lay-array T 64 t d e ee el c j q _ refl in
@@ -118,7 +118,7 @@ module _ (T : Lent) (left t : ℕ) (d : List ℕ) (at : ℕ) (k : Aim) (v : List
           rw (level, q, ← l, ← f) (walk_is (lent T) (places_at (lent T) (length v) (left - 1)) (length v) at (fields_from T.fields.now i n) d 0 1 0 g)
 
       -- it is traced as one record of one
-      pub in-record : (i n : ℕ) → e ≡ Record i n → length d < 2 ^ 64 → at ≤ length v → (st : ℕ) (r : Answer) (ms to : List ℕ) → told r ms to ≡ handing_at k v s (many (length v) (λ p. walk (lent T) (places_at (lent T) (length v) (left - 1)) (length v) p (fields_from T.fields.now i n) d 0 1 0) st 1 at) → told r ms to ≡ handing_at k v s (places_at (lent T) (length v) left t d at)
+      pub in-record : (i n : ℕ) → e ≡ Record i n → length d < 2 ^ 64 → at ≤ length v → (st : ℕ) (r : InUse) (ms to : List ℕ) → told r ms to ≡ handing_at k v s (many (length v) (λ p. walk (lent T) (places_at (lent T) (length v) (left - 1)) (length v) p (fields_from T.fields.now i n) d 0 1 0) st 1 at) → told r ms to ≡ handing_at k v s (places_at (lent T) (length v) left t d at)
       in-record i n q g h' st r ms to er = er ∙ ap (handing_at k v s) (many-one (length v) (λ p. walk (lent T) (places_at (lent T) (length v) (left - 1)) (length v) p (fields_from T.fields.now i n) d 0 1 0) st at h' ∙ record_is i n q g)
 
       other-cases : (x : Entry) → ((a b c : ℕ) → x ≡ Array a b c → ⊥) → ((a b : ℕ) → x ≡ Record a b → ⊥) → (x ≡ Access → ⊥) → (x ≡ Protected → ⊥) → places_by (lent T) (places_at (lent T) (length v) (left - 1)) (length v) t d at (read_entry T.fields.now x) ≡ some []
@@ -144,13 +144,13 @@ looked-not T t left x i n e = let z : ◌≡◌ {A = ℕ} 0 1 = cc in absurd (om
 -- ---- trace_elems
 
 module _ (T : Lent) (left t : ℕ) (d : List ℕ) (k : Aim) (v : List ℕ) (s : Raw) (x : Bool) (ex : x ≡ has_handles (types_of T.types.now T.fields.now) t) (i n : ℕ) (g : length d < 2 ^ 64) (l : Looked T t left x i n) where
-  pub looked-records : (st q at : ℕ) (r : Answer) (ms to : List ℕ) → told r ms to ≡ handing_at k v s (many (length v) (λ p. walk (lent T) (places_at (lent T) (length v) (left - 1)) (length v) p (fields_from T.fields.now i n) d 0 1 0) st q at) → told r ms to ≡ handing_at k v s (many (length v) (places_at (lent T) (length v) left t d) st q at)
+  pub looked-records : (st q at : ℕ) (r : InUse) (ms to : List ℕ) → told r ms to ≡ handing_at k v s (many (length v) (λ p. walk (lent T) (places_at (lent T) (length v) (left - 1)) (length v) p (fields_from T.fields.now i n) d 0 1 0) st q at) → told r ms to ≡ handing_at k v s (many (length v) (places_at (lent T) (length v) left t d) st q at)
   looked-records st q at r ms to er = er ∙ ap (handing_at k v s) (many-ext (length v) _ _ (λ p. record_is T left t d p k v s l.level x ex l.handles (Record i n) l.row i n refl g) st q at)
 
 -- ---- trace_parts
 
 module _ (T : Lent) (left t c : ℕ) (d : List ℕ) (st n at : ℕ) (k : Aim) (v : List ℕ) (s : Raw) where
-  pub parts-rest : c ≡ 4294967295 → (r : Answer) (ms to : List ℕ) → told r ms to ≡ handing_at k v s (many (length v) (places_at (lent T) (length v) left t d) st n at) → told r ms to ≡ handing_at k v s (many (length v) (part_places (lent T) (places_at (lent T) (length v) left) t c d) st n at)
+  pub parts-rest : c ≡ 4294967295 → (r : InUse) (ms to : List ℕ) → told r ms to ≡ handing_at k v s (many (length v) (places_at (lent T) (length v) left t d) st n at) → told r ms to ≡ handing_at k v s (many (length v) (part_places (lent T) (places_at (lent T) (length v) left) t c d) st n at)
   unfolding part_places
   parts-rest h r ms to er = er ∙ ap (handing_at k v s) (many-ext (length v) _ _ (λ p. rw (eq-eqb c no_const h) refl) st n at)
 
@@ -162,7 +162,7 @@ module _ (T : Lent) (left t c : ℕ) (d : List ℕ) (st n at : ℕ) (k : Aim) (v
     unfolding part_places read_part
     parts-nowhere z e = emit-none k v s _ (many-none (length v) _ (λ q. rw (ne_eqb c no_const h, const-at, ← ep, e) refl) st n at z)
 
-    pub parts-const : (x y : ℕ) → p ≡ Some (x, y) → (r : Answer) (ms to : List ℕ) → told r ms to ≡ handing_at k v s (many (length v) (places_at (lent T) (length v) left t (take (y - x) (drop x T.bytes.now))) st n at) → told r ms to ≡ handing_at k v s (many (length v) (part_places (lent T) (places_at (lent T) (length v) left) t c d) st n at)
+    pub parts-const : (x y : ℕ) → p ≡ Some (x, y) → (r : InUse) (ms to : List ℕ) → told r ms to ≡ handing_at k v s (many (length v) (places_at (lent T) (length v) left t (take (y - x) (drop x T.bytes.now))) st n at) → told r ms to ≡ handing_at k v s (many (length v) (part_places (lent T) (places_at (lent T) (length v) left) t c d) st n at)
     unfolding part_places read_part
     parts-const x y e r ms to er = er ∙ ap (handing_at k v s) (many-ext (length v) _ _ (λ q. rw (ne_eqb c no_const h, const-at, ← ep, e) refl) st n at)
 
@@ -243,14 +243,14 @@ module _ (T : Lent) (left t c : ℕ) (d : List ℕ) (at : ℕ) (k : Aim) (v : Li
     unfolding part_places part_leaf
     free_part q = free-case (eqb c no_const) (sym el ∙ q)
 
-    pub part-own : l ≡ Own → (r : Answer) (ms to : List ℕ) → told r ms to ≡ handing_at k v s (only_if (leb (at + 8) (length v)) (some (at ∷ []))) → told r ms to ≡ handing_at k v s (part_places (lent T) (places_at (lent T) (length v) left) t c d at)
+    pub part-own : l ≡ Own → (r : InUse) (ms to : List ℕ) → told r ms to ≡ handing_at k v s (only_if (leb (at + 8) (length v)) (some (at ∷ []))) → told r ms to ≡ handing_at k v s (part_places (lent T) (places_at (lent T) (length v) left) t c d at)
     part-own q r ms to er = er ∙ ap (handing_at k v s) (sym (own-part q))
 
     pub part_free : l ≡ Free → ok s ≡ handing_at k v s (part_places (lent T) (places_at (lent T) (length v) left) t c d at)
     part_free q = emit-nil k v s _ (free_part q)
 
 -- one element is a field
-pub part-one : (T : Table) (next : Below) (t c used : ℕ) (d : List ℕ) (at : ℕ) (k : Aim) (v : List ℕ) (s : Raw) → at ≤ length v → (st : ℕ) (r : Answer) (ms to : List ℕ) → told r ms to ≡ handing_at k v s (many (length v) (part_places T next t c (take (length d - used) (drop used d))) st 1 at) → told r ms to ≡ handing_at k v s (part_places T next t c (drop used d) at)
+pub part-one : (T : Table) (next : Below) (t c used : ℕ) (d : List ℕ) (at : ℕ) (k : Aim) (v : List ℕ) (s : Raw) → at ≤ length v → (st : ℕ) (r : InUse) (ms to : List ℕ) → told r ms to ≡ handing_at k v s (many (length v) (part_places T next t c (take (length d - used) (drop used d))) st 1 at) → told r ms to ≡ handing_at k v s (part_places T next t c (drop used d) at)
 part-one T next t c used d at k v s h st r ms to er = rw (← rest used d) (er ∙ ap (handing_at k v s) (many-one (length v) (part_places T next t c (take (length d - used) (drop used d))) st at h))
 
 -- ---- leaf_at
@@ -317,7 +317,7 @@ module _ (T : Table) (lay : ℕ → List ℕ → Lay) (next : Below) (t el c j :
   array-none why h = emit-none k v s _ (rw (← el', h) refl)
 
   module _ (z : Layout) (o : l ≡ Ok z) where
-    pub array-some : (q : ℕ) → q ≡ turns z.stride z.count → (r : Answer) (ms to : List ℕ) → told r ms to ≡ handing_at k v s (many (length v) (part_places T next el c (take (length d - 24 * j) (drop (24 * j) d))) z.stride q at) → told r ms to ≡ handing_at k v s (if_laid (array_of T lay t el c j d) (λ st n. many (length v) (part_places T next el c (drop (24 * j) d)) st (turns st n) at))
+    pub array-some : (q : ℕ) → q ≡ turns z.stride z.count → (r : InUse) (ms to : List ℕ) → told r ms to ≡ handing_at k v s (many (length v) (part_places T next el c (take (length d - 24 * j) (drop (24 * j) d))) z.stride q at) → told r ms to ≡ handing_at k v s (if_laid (array_of T lay t el c j d) (λ st n. many (length v) (part_places T next el c (drop (24 * j) d)) st (turns st n) at))
     array-some q eq r ms to er = rw (← el', o, ← eq, ← rest (24 * j) d) er
 
 -- ---- place_after
@@ -410,7 +410,7 @@ module _ (T : Table) (next : Below) (fs : List ℕ) (f n i : ℕ) (d : List ℕ)
       pub field-beyond : at ≤ length v → length v - at < z.offset → refused 13 ≡ G
       field-beyond h l = emit-none k v (raw_of ms to m) _ (rw (next-is, q, lt-leb (at + z.offset) (length v) (omega arith)) refl) ∙ inv
 
-      module _ (h : at ≤ length v) (l : z.offset ≤ length v - at) (r : Answer) (ms' to' : List ℕ) (er : told r ms' to' ≡ handing_at k v (raw_of ms to m) (part_places T next (get_or fs (2 * (f + i)) 0) (get_or fs (2 * (f + i) + 1) 0) (drop used d) (at + z.offset))) where
+      module _ (h : at ≤ length v) (l : z.offset ≤ length v - at) (r : InUse) (ms' to' : List ℕ) (er : told r ms' to' ≡ handing_at k v (raw_of ms to m) (part_places T next (get_or fs (2 * (f + i)) 0) (get_or fs (2 * (f + i) + 1) 0) (drop used d) (at + z.offset))) where
         turn : walk T next (length v) at (fields_from fs (f + i) (n - i)) d off al used ≡ both (part_places T next (get_or fs (2 * (f + i)) 0) (get_or fs (2 * (f + i) + 1) 0) (drop used d) (at + z.offset)) (walk T next (length v) at (fields_from fs (f + (i + 1)) (n - (i + 1))) d z.end (max al z.align) (used + used_by (get_or fs (2 * (f + i) + 1) 0) z.used))
         turn = rw (next-is, q, le-leb (at + z.offset) (length v) (omega arith)) refl
 

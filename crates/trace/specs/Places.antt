@@ -92,13 +92,13 @@ object_places T t v =
     else some []
 
 -- n places from `at` on, eight bytes apart
-unfoldable pub rising : ℕ → ℕ → List ℕ
-rising zero at = []
-rising (suc n) at = at ∷ rising n (at + 8)
+unfoldable pub eight_apart : ℕ → ℕ → List ℕ
+eight_apart zero at = []
+eight_apart (suc n) at = at ∷ eight_apart n (at + 8)
 
 -- a Handles object of n bytes: at 24, 32, .. while eight bytes fit
 unfoldable pub handles_places : ℕ → List ℕ
-handles_places n = rising ((n - 24) / 8) 24
+handles_places n = eight_apart ((n - 24) / 8) 24
 
 -- the visible data of an object: kind 1 Typed by its type, 3 Handles, 2 Bytes none
 unfoldable pub kind_places : Table → ℕ → ℕ → List ℕ → Places

@@ -12,7 +12,7 @@ use Rattle.beside.specs.Inner.Ranks.{place_in}
 use Rattle.beside.specs.Inner.Found.{codes_of}
 use Rattle.beside.proofs.Codings.{beside-found}
 use Rattle.trace.specs.Places.{Places}
-use Rattle.trace.specs.Inner.Emit.{Answer, Raw, raw_of, compared, handed, handed_all, handing_at, told}
+use Rattle.trace.specs.Inner.Emit.{Raw, raw_of, compared, handed, handed_all, handing_at, told, InUse}
 use Rattle.trace.proofs.Emits.{ok-inj}
 
 module _ (R R' : ℕ → Result ℕ) (ow other v work : List ℕ) where
@@ -35,7 +35,7 @@ module _ (R R' : ℕ → Result ℕ) (ow other v work : List ℕ) where
       ∙ beside-all (beside_at place_beside v other x a) ps
 
   -- from nothing found on
-  module _ (o : Places) (r : Answer) (found work' : List ℕ) (er : told r found work' ≡ handing_at (compared R R' ow other) v (raw_of (0 ∷ 0 ∷ []) work 0) o) where
+  module _ (o : Places) (r : InUse) (found work' : List ℕ) (er : told r found work' ≡ handing_at (compared R R' ow other) v (raw_of (0 ∷ 0 ∷ []) work 0) o) where
     pub beside-told : (ps : List ℕ) → o ≡ some ps → (n : ℕ) → r ≡ Some n → raw_of found work' n ≡ beside_raw (beside_all place_beside v other beside_first ps)
     unfolding handing_at
     beside-told ps e n t = ok-inj (rw (e, t) at er) ∙ beside-all beside_first ps

@@ -17,7 +17,7 @@ use Rattle.word.proofs.PutLaws.{put_all}
 use Rattle.refusal.specs.declared.Answer.{Answer as Numbers}
 use Rattle.std.specs.Prelude.{Ok, Err}
 use Rattle.refusal.specs.declared.Refusal.TheVariants.{Untraceable as Failed, ShortList}
-use Rattle.trace.specs.Inner.Emit.{Answer, Raw, raw_of, into, emitted, emit_all, emitting, told}
+use Rattle.trace.specs.Inner.Emit.{Raw, raw_of, into, emitted, emit_all, emitting, told, InUse}
 use Rattle.traced.specs.Listing.{listing}
 use Rattle.traced.specs.Inner.Lists.{Lists}
 use Rattle.trace.specs.declared.Sink.TheVariants.{Check, List as ToList}
@@ -101,7 +101,7 @@ module _ (R : ℕ → Result ℕ) (ms u out : List ℕ) where
       record { answer = rw (lt-leb (length ws) (length out) g) refl; written = rw (lt-leb (length ws) (length out) g) refl }
 
   module _ (Q : ℕ → Result ℕ) (ps : List ℕ) where
-    wrote_by : (ms' u' : List ℕ) (n : ℕ) (o : Option (List ℕ)) → length out < 2 ^ 64 - 1 → ok (raw_of ms' u' n) ≡ emitting (into (Check (length out)) R) (raw_of ms u 0) o → n ≤ length out → (r : Answer) (ps' out' : List ℕ) → told r ps' out' ≡ emitting (into ToList Q) (raw_of ps out 0) o → Lists (listing o (length out)) (Ok (n, 0)) out out'
+    wrote_by : (ms' u' : List ℕ) (n : ℕ) (o : Option (List ℕ)) → length out < 2 ^ 64 - 1 → ok (raw_of ms' u' n) ≡ emitting (into (Check (length out)) R) (raw_of ms u 0) o → n ≤ length out → (r : InUse) (ps' out' : List ℕ) → told r ps' out' ≡ emitting (into ToList Q) (raw_of ps out 0) o → Lists (listing o (length out)) (Ok (n, 0)) out out'
     unfolding emitting listing
     wrote_by ms' u' n none b e l r ps' out' s = let x : ◌≡◌ {A = ℕ} 0 1 = cc in absurd (omega arith)
     wrote_by ms' u' n (some ws) b e l None ps' out' s = let x : ◌≡◌ {A = ℕ} 0 1 = cc in absurd (omega arith)
@@ -121,7 +121,7 @@ module _ (R : ℕ → Result ℕ) (ms u out : List ℕ) where
       absurd (omega arith)
   none_by ms' u' n (some []) b e z = subst (λ (m : ℕ). Lists (listing (some []) (length out)) (Ok (m, 0)) out out) z (wrote_by R [] ms' u' n (some []) b e (omega arith) (Some 0) [] out refl)
 
-module _ (R : ℕ → Result ℕ) (ms u ms' u' out : List ℕ) (o : Option (List ℕ)) (r : Answer) (er : told r ms' u' ≡ emitting (into (Check (length out)) R) (raw_of ms u 0) o) where
+module _ (R : ℕ → Result ℕ) (ms u ms' u' out : List ℕ) (o : Option (List ℕ)) (r : InUse) (er : told r ms' u' ≡ emitting (into (Check (length out)) R) (raw_of ms u 0) o) where
   pub list-failed : r ≡ None → Lists (listing o (length out)) (Err Failed) out out
   list-failed e = failed-by R ms u out o (told-untraceable r ms' u' _ er e)
 
@@ -132,5 +132,5 @@ module _ (R : ℕ → Result ℕ) (ms u ms' u' out : List ℕ) (o : Option (List
     pub list-none : length out < 2 ^ 64 - 1 → n ≡ 0 → Lists (listing o (length out)) (Ok (0, 0)) out out
     list-none b z = none_by R ms u out ms' u' n o b (told-traced r ms' u' _ n er e) z
 
-    pub list_wrote : length out < 2 ^ 64 - 1 → n ≤ length out → (Q : ℕ → Result ℕ) (ps : List ℕ) (q : Answer) (ps' out' : List ℕ) → told q ps' out' ≡ emitting (into ToList Q) (raw_of ps out 0) o → Lists (listing o (length out)) (Ok (n, 0)) out out'
+    pub list_wrote : length out < 2 ^ 64 - 1 → n ≤ length out → (Q : ℕ → Result ℕ) (ps : List ℕ) (q : InUse) (ps' out' : List ℕ) → told q ps' out' ≡ emitting (into ToList Q) (raw_of ps out 0) o → Lists (listing o (length out)) (Ok (n, 0)) out out'
     list_wrote b l Q ps q ps' out' s = wrote_by R ms u out Q ps ms' u' n o b (told-traced r ms' u' _ n er e) l q ps' out' s

@@ -8,18 +8,18 @@ use Rattle.word.specs.Result.{Result, ok}
 use Rattle.ty.specs.Types.{Table}
 use Rattle.word.proofs.ListLaws.{rest}
 use Rattle.trace.specs.Places.{places_at, object_places, handles_places, kind_places, shown_places, handle_at, words_at, value_handles, object_handles, handles_of}
-use Rattle.trace.specs.Inner.Emit.{Answer, Raw, Into, emit_all, emitting, Aim, words_to, compared, handing_at, told}
+use Rattle.trace.specs.Inner.Emit.{Raw, Into, emit_all, emitting, Aim, words_to, compared, handing_at, told, InUse}
 use Rattle.trace.proofs.Emits.{emit-nil, words-at}
 
 -- ---- a value
 
-pub value-whole : (T : Table) (t : ℕ) (v : List ℕ) (k : Into) (s : Raw) (r : Answer) (ms to : List ℕ) → told r ms to ≡ handing_at (words_to k) v s (places_at T (length v) 65 t [] 0) → told r ms to ≡ emitting k s (value_handles T t v)
+pub value-whole : (T : Table) (t : ℕ) (v : List ℕ) (k : Into) (s : Raw) (r : InUse) (ms to : List ℕ) → told r ms to ≡ handing_at (words_to k) v s (places_at T (length v) 65 t [] 0) → told r ms to ≡ emitting k s (value_handles T t v)
 unfolding value_handles
 value-whole T t v k s r ms to er = er ∙ words-at k v s (places_at T (length v) 65 t [] 0)
 
 -- ---- an object
 
-pub object-words : (T : Table) (t : ℕ) (v : List ℕ) (k : Into) (s : Raw) (r : Answer) (ms to : List ℕ) → told r ms to ≡ handing_at (words_to k) v s (object_places T t v) → told r ms to ≡ emitting k s (object_handles T t v)
+pub object-words : (T : Table) (t : ℕ) (v : List ℕ) (k : Into) (s : Raw) (r : InUse) (ms to : List ℕ) → told r ms to ≡ handing_at (words_to k) v s (object_places T t v) → told r ms to ≡ emitting k s (object_handles T t v)
 unfolding object_handles
 object-words T t v k s r ms to er = er ∙ words-at k v s (object_places T t v)
 
@@ -30,11 +30,11 @@ module _ (T : Table) (kind t start : ℕ) (v : List ℕ) (k : Into) (s : Raw) wh
   unfolding handles_of emitting emit_all
   slot-hidden h = rw (lt-leb start (length v) h) refl
 
-  pub slot-one : kind ≡ 1 → (r : Answer) (ms to : List ℕ) → told r ms to ≡ emitting k s (handles_of T 1 t start v) → told r ms to ≡ emitting k s (handles_of T kind t start v)
+  pub slot-one : kind ≡ 1 → (r : InUse) (ms to : List ℕ) → told r ms to ≡ emitting k s (handles_of T 1 t start v) → told r ms to ≡ emitting k s (handles_of T kind t start v)
   slot-one h r ms to er = rw h er
 
   module _ (l : start ≤ length v) where
-    pub slot-typed : kind ≡ 1 → (r : Answer) (ms to : List ℕ) → told r ms to ≡ emitting k s (object_handles T t (take (length v - start) (drop start v))) → told r ms to ≡ emitting k s (handles_of T kind t start v)
+    pub slot-typed : kind ≡ 1 → (r : InUse) (ms to : List ℕ) → told r ms to ≡ emitting k s (object_handles T t (take (length v - start) (drop start v))) → told r ms to ≡ emitting k s (handles_of T kind t start v)
     unfolding handles_of kind_places object_handles
     slot-typed h r ms to er = rw (le-leb start (length v) l, eq-eqb kind 1 h) (er ∙ ap (λ (x : List ℕ). emitting k s (words_at x (object_places T t x))) (rest start v))
 
@@ -57,7 +57,7 @@ module _ (T : Table) (kind t start : ℕ) (v : List ℕ) (s : Raw) where
   unfolding shown_places
   shown-hidden k h = emit-nil k (drop start v) s _ (rw (lt-leb start (length v) h) refl)
 
-  pub shown_rest : (R R' : ℕ → Result ℕ) (turns other : List ℕ) → start ≤ length v → (r : Answer) (ms to : List ℕ)
+  pub shown_rest : (R R' : ℕ → Result ℕ) (turns other : List ℕ) → start ≤ length v → (r : InUse) (ms to : List ℕ)
       → told r ms to ≡ handing_at (compared R R' turns (take (length other - start) (drop start other))) (take (length v - start) (drop start v)) s (kind_places T kind t (take (length v - start) (drop start v)))
       → told r ms to ≡ handing_at (compared R R' turns (drop start other)) (drop start v) s (shown_places T kind t start v)
   unfolding shown_places

@@ -6,7 +6,7 @@ use Rattle.word.proofs.Bools.{and_both}
 use Rattle.word.proofs.RunLaws.{run-get}
 use Rattle.handle.specs.Inner.Columns.{live_in}
 use Rattle.heap.proofs.Storing.{map-set}
-use Rattle.trace.specs.Inner.Emit.{Answer, raw_of, queued}
+use Rattle.trace.specs.Inner.Emit.{raw_of, queued, InUse}
 use Rattle.reach.specs.Reach.{Graph}
 use Rattle.reach.specs.Marking.{State, visit, drained}
 use Rattle.reach.specs.Inner.Good.{Good}
@@ -80,8 +80,8 @@ module _ (marks work : List ℕ) (n w v : ℕ) where
 -- ---- the ways out of `meet`
 
 -- what stops a step stops the going
-pub stopped : {r : Answer} (slots : ℕ) (marks work : List ℕ) {o : Option Going} → r ≡ None → o ≡ none → Goes r slots marks work o
-stopped slots marks work {o} e n = subst (λ (x : Answer). Goes x slots marks work o) (sym e) n
+pub stopped : {r : InUse} (slots : ℕ) (marks work : List ℕ) {o : Option Going} → r ≡ None → o ≡ none → Goes r slots marks work o
+stopped slots marks work {o} e n = subst (λ (x : InUse). Goes x slots marks work o) (sym e) n
 
 pub met-scratch : (slots w : ℕ) (marks work : List ℕ) (n : ℕ) → Scratch slots marks work n → w < slots → (m₁ w₁ : List ℕ) (c₁ : ℕ) → raw_of m₁ w₁ c₁ ≡ queued (raw_of marks work n) w → Scratch slots m₁ w₁ c₁
 met-scratch slots w marks work n s l m₁ w₁ c₁ e = (queue-met slots marks work n w m₁ w₁ c₁ s l e).scratch
@@ -94,9 +94,9 @@ module _ (G : Graph) (slots v w : ℕ) (marks work : List ℕ) (n : ℕ) (s : Sc
     held : Holds slots m₁ w₁ c₁ (visit (state_of marks work n) w)
     held = queue-met slots marks work n w m₁ w₁ c₁ s l e
 
-    module _ (r : Answer) (m₂ w₂ : List ℕ) (t : Traces r slots m₂ w₂ (drained G (slots - n) (state_of m₁ w₁ c₁) n)) (f : NotedBy r w₁ w₂) where
-      at : (x : Answer) → r ≡ x → Traces x slots m₂ w₂ (drained G (slots - n) (state_of m₁ w₁ c₁) n)
-      at x q = subst (λ (y : Answer). Traces y slots m₂ w₂ (drained G (slots - n) (state_of m₁ w₁ c₁) n)) q t
+    module _ (r : InUse) (m₂ w₂ : List ℕ) (t : Traces r slots m₂ w₂ (drained G (slots - n) (state_of m₁ w₁ c₁) n)) (f : NotedBy r w₁ w₂) where
+      at : (x : InUse) → r ≡ x → Traces x slots m₂ w₂ (drained G (slots - n) (state_of m₁ w₁ c₁) n)
+      at x q = subst (λ (y : InUse). Traces y slots m₂ w₂ (drained G (slots - n) (state_of m₁ w₁ c₁) n)) q t
 
       -- the queue is gone through from where it stood
       from : (o : Option State) → drained G (slots - n) (state_of m₁ w₁ c₁) n ≡ o → drained G (slots - length (map low (take n work))) (visit (state_of marks work n) w) (length (map low (take n work))) ≡ o
@@ -110,7 +110,7 @@ module _ (G : Graph) (slots v w : ℕ) (marks work : List ℕ) (n : ℕ) (s : Sc
       met-new c q =
           let a = at (Some c) q in
           let notes : map high (set w₂ w (over-note (get_or w₂ w 0) v)) ≡ set (map high work) w v =
-          note-notes m₂ w₂ c w v ∙ ap (λ (x : List ℕ). set x w v) (subst (λ (y : Answer). NotedBy y w₁ w₂) q f ∙ pin-noted slots marks work n w m₁ w₁ c₁ s l e) in (
+          note-notes m₂ w₂ c w v ∙ ap (λ (x : List ℕ). set x w v) (subst (λ (y : InUse). NotedBy y w₁ w₂) q f ∙ pin-noted slots marks work n w m₁ w₁ c₁ s l e) in (
             meeting-new G slots v w (going_of marks work n) h (some (state_of m₂ w₂ c)) (from (some (state_of m₂ w₂ c)) a.0)
                 ∙ (λ j. some (record { state = sym (note-state m₂ w₂ c w v) j; notes = sym notes j })),
             note-scratch m₂ w₂ c w v slots a.1,
@@ -125,7 +125,7 @@ module _ (G : Graph) (slots w : ℕ) (marks work : List ℕ) (n : ℕ) where
   pub again-passed : Scratch slots marks work n → (get_or work w 0 / 4294967296 ≡ 1 → ⊥) → Goes (Some n) slots marks work (again G slots w (going_of marks work n))
   again-passed s h = (again-no G slots w (going_of marks work n) (note-at 1 work w ∙ ne_eqb (get_or work w 0 / 4294967296) 1 h), s)
 
-  pub again-met : get_or work w 0 / 4294967296 ≡ 1 → (r : Answer) (marks' work' : List ℕ) → Goes r slots marks' work' (meeting G slots 2 w (going_of marks work n)) → Goes r slots marks' work' (again G slots w (going_of marks work n))
+  pub again-met : get_or work w 0 / 4294967296 ≡ 1 → (r : InUse) (marks' work' : List ℕ) → Goes r slots marks' work' (meeting G slots 2 w (going_of marks work n)) → Goes r slots marks' work' (again G slots w (going_of marks work n))
   again-met h r marks' work' g =
       subst (λ (o : Option Going). Goes r slots marks' work' o) (sym (again-yes G slots w (going_of marks work n) (note-at 1 work w ∙ eq-eqb (get_or work w 0 / 4294967296) 1 h))) g
 

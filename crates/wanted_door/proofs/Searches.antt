@@ -7,7 +7,7 @@ use mathlib.Core.List.{List, [], map}
 use lib.ListN.{length, get_or, replicate, length-replicate}
 use lib.Dec.{eqb}
 use native.Mathlib.Omega.{arith}
-use Rattle.trace.specs.Inner.Emit.{Answer}
+use Rattle.trace.specs.Inner.Emit.{InUse}
 use Rattle.std.specs.Prelude.{Option as Maybe, Some, None, if◌then◌else◌}
 use Rattle.std.specs.Prelude.{is_some}
 use Rattle.reach.specs.Reach.{Graph}
@@ -33,7 +33,7 @@ cleared slots marks work marks' r e =
 pub room_after : (slots : ℕ) (marks work marks' work' : List ℕ) → Clear slots marks work → length marks' ≡ length marks → length work' ≡ length work → Room slots marks' work'
 room_after slots marks work marks' work' c a b = record { few = c.few; size = a ∙ ap length c.clear ∙ length-replicate slots 0; words = omega (arith, c.room) }
 
-module _ (G : Graph) (slots : ℕ) (sealed pins marks work : List ℕ) (c : Clear slots marks work) (r : Answer) (m₁ w₁ : List ℕ)
+module _ (G : Graph) (slots : ℕ) (sealed pins marks work : List ℕ) (c : Clear slots marks work) (r : InUse) (m₁ w₁ : List ℕ)
     (t : Traces r slots m₁ w₁ (drained G slots (seeded_from G.resolve G.live (state_of marks work 0) [] sealed pins) 0)) (f : NotedBy r work w₁) where
   abbrev marked : Option State
   marked = marking G (starts_of [] sealed pins) slots
@@ -42,15 +42,15 @@ module _ (G : Graph) (slots : ℕ) (sealed pins marks work : List ℕ) (c : Clea
   unfolding marking
   as-marking = ap (λ (m : List ℕ). drained G slots (seeded_from G.resolve G.live (record { marks = m; queue = [] }) [] sealed pins) 0) c.clear
 
-  at : (x : Answer) → r ≡ x → Traces x slots m₁ w₁ marked
-  at x e = subst (λ (o : Option State). Traces x slots m₁ w₁ o) as-marking (subst (λ (y : Answer). Traces y slots m₁ w₁ (drained G slots (seeded_from G.resolve G.live (state_of marks work 0) [] sealed pins) 0)) e t)
+  at : (x : InUse) → r ≡ x → Traces x slots m₁ w₁ marked
+  at x e = subst (λ (o : Option State). Traces x slots m₁ w₁ o) as-marking (subst (λ (y : InUse). Traces y slots m₁ w₁ (drained G slots (seeded_from G.resolve G.live (state_of marks work 0) [] sealed pins) 0)) e t)
 
   -- the marking stands, with the notes as they were
   pub begun-scratch : (b : ℕ) → r ≡ Some b → Scratch slots m₁ w₁ b
   begun-scratch b e = (at (Some b) e).1
 
   begun : (b : ℕ) → r ≡ Some b → noting marked (map high work) ≡ some (going_of m₁ w₁ b)
-  begun b e = ap (λ (o : Option State). noting o (map high work)) (at (Some b) e).0 ∙ ap (λ (l : List ℕ). some (going (state_of m₁ w₁ b) l)) (sym (subst (λ (y : Answer). NotedBy y work w₁) e f))
+  begun b e = ap (λ (o : Option State). noting o (map high work)) (at (Some b) e).0 ∙ ap (λ (l : List ℕ). some (going (state_of m₁ w₁ b) l)) (sym (subst (λ (y : InUse). NotedBy y work w₁) e f))
 
   stuck : r ≡ None → noting marked (map high work) ≡ none
   stuck e = ap (λ (o : Option State). noting o (map high work)) (at None e)
@@ -62,10 +62,10 @@ module _ (G : Graph) (slots : ℕ) (sealed pins marks work : List ℕ) (c : Clea
     pub choose-stuck : r ≡ None → none ≡ notes_of (secondly G (starts_of [] sealed pins) slots W (map high work))
     choose-stuck e = sym (ap (λ (o : Option Going). notes_of (and_then o (downward G slots W (length W)))) (stuck e))
 
-    module _ (b : ℕ) (e : r ≡ Some b) (q : Answer) (m₂ w₂ : List ℕ) where
+    module _ (b : ℕ) (e : r ≡ Some b) (q : InUse) (m₂ w₂ : List ℕ) where
       module _ (u : Goes q slots m₂ w₂ (upward G slots W (going_of m₁ w₁ b))) where
-        up_at : (x : Answer) → q ≡ x → Goes x slots m₂ w₂ (upward G slots W (going_of m₁ w₁ b))
-        up_at x i = subst (λ (y : Answer). Goes y slots m₂ w₂ (upward G slots W (going_of m₁ w₁ b))) i u
+        up_at : (x : InUse) → q ≡ x → Goes x slots m₂ w₂ (upward G slots W (going_of m₁ w₁ b))
+        up_at x i = subst (λ (y : InUse). Goes y slots m₂ w₂ (upward G slots W (going_of m₁ w₁ b))) i u
 
         first : (o : Option Going) → upward G slots W (going_of m₁ w₁ b) ≡ o → notes_of (firstly G (starts_of [] sealed pins) slots W (map high work)) ≡ notes_of (and_then o (as_many W))
         first o i = ap (λ (p : Option Going). notes_of (and_then (and_then p (upward G slots W)) (as_many W))) (begun b e) ∙ ap (λ (p : Option Going). notes_of (and_then p (as_many W))) i
@@ -87,8 +87,8 @@ module _ (G : Graph) (slots : ℕ) (sealed pins marks work : List ℕ) (c : Clea
         keep-inside below n i k h = below (get_or W k 0) (upward-live G slots W (going_of m₁ w₁ b) (going_of m₂ w₂ n) (up_at (Some n) i).0 k h)
 
       module _ (u : Goes q slots m₂ w₂ (downward G slots W (length W) (going_of m₁ w₁ b))) where
-        down-at : (x : Answer) → q ≡ x → Goes x slots m₂ w₂ (downward G slots W (length W) (going_of m₁ w₁ b))
-        down-at x i = subst (λ (y : Answer). Goes y slots m₂ w₂ (downward G slots W (length W) (going_of m₁ w₁ b))) i u
+        down-at : (x : InUse) → q ≡ x → Goes x slots m₂ w₂ (downward G slots W (length W) (going_of m₁ w₁ b))
+        down-at x i = subst (λ (y : InUse). Goes y slots m₂ w₂ (downward G slots W (length W) (going_of m₁ w₁ b))) i u
 
         second : (o : Option Going) → downward G slots W (length W) (going_of m₁ w₁ b) ≡ o → notes_of (secondly G (starts_of [] sealed pins) slots W (map high work)) ≡ notes_of o
         second o i = ap (λ (p : Option Going). notes_of (and_then p (downward G slots W (length W)))) (begun b e) ∙ ap notes_of i
@@ -102,7 +102,7 @@ module _ (G : Graph) (slots : ℕ) (sealed pins marks work : List ℕ) (c : Clea
         pub choose-ended : notes_if (is_some q) w₂ ≡ notes_of (secondly G (starts_of [] sealed pins) slots W (map high work))
         choose-ended = by q refl
           where
-            by : (x : Answer) → q ≡ x → notes_if (is_some x) w₂ ≡ notes_of (secondly G (starts_of [] sealed pins) slots W (map high work))
+            by : (x : InUse) → q ≡ x → notes_if (is_some x) w₂ ≡ notes_of (secondly G (starts_of [] sealed pins) slots W (map high work))
             by None i = choose-none i
             by (Some n) i = choose-done n i
 

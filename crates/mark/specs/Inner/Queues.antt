@@ -1,7 +1,7 @@
 -- What a step leaves of the lent scratch of a marking.
 use Rattle.std.specs.Prelude.{Option, Some, None, ◌≡◌, ℕ}
 use Rattle.std.proofs.Math.Option as math
-use Rattle.trace.specs.Inner.Emit.{Answer}
+use Rattle.trace.specs.Inner.Emit.{InUse}
 use Rattle.reach.specs.Marking.{State}
 use Rattle.mark.specs.Inner.Scratch.{state_of, Scratch, Holds, Traces, Noted, NotedBy}
 use Rattle.mark.specs.declared.queue.Queue.{Queue}
@@ -25,7 +25,7 @@ pub record Becomes (slots : ℕ) (q q' : Queue) (s : State) : Type 0 where
   pub noted : Noted q.work.now q'.work.now
 
 -- with the length of the queue, as a trace answers
-abbrev pub counted : Option Unit → Queue → Answer
+abbrev pub counted : Option Unit → Queue → InUse
 counted (Some u) q = Some q.n
 counted None q = None
 

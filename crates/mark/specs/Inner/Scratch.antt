@@ -1,5 +1,5 @@
 -- The scratch of a marking as the state that crate `reach` defines: what the inner functions ask and ensure.
-use Rattle.trace.specs.Inner.Emit.{Answer}
+use Rattle.trace.specs.Inner.Emit.{InUse}
 use Rattle.std.specs.Prelude.{Some, true, None, ℕ, ◌≤◌, ◌/◌, ◌%◌, ◌^◌, ◌≡◌, Bool, List, ◌++◌, map, length, take, replicate}
 use Rattle.std.proofs.Math.Option.{Option, none, some}
 use Rattle.reach.specs.Marking.{State, follow_all, pin_all}
@@ -53,7 +53,7 @@ following R s none = none
 following R s (some hs) = some (follow_all R s hs)
 
 -- what the answer of a trace says, with marks and work as they are then: the state, or that there is none
-abbrev pub Traces : Answer → ℕ → List ℕ → List ℕ → Option State → Type 0
+abbrev pub Traces : InUse → ℕ → List ℕ → List ℕ → Option State → Type 0
 Traces (Some n) slots marks work o = (o ≡ some (state_of marks work n)) × Scratch slots marks work n
 Traces None slots marks work o = o ≡ none
 
@@ -66,6 +66,6 @@ abbrev pub Noted : (work work' : List ℕ) → Type 0
 Noted work work' = map high work' ≡ map high work
 
 -- after a trace that succeeded
-abbrev pub NotedBy : Answer → (work work' : List ℕ) → Type 0
+abbrev pub NotedBy : InUse → (work work' : List ℕ) → Type 0
 NotedBy (Some n) work work' = Noted work work'
 NotedBy None work work' = Unit {0}

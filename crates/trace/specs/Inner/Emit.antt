@@ -102,10 +102,10 @@ handing_at k v s none = refused 13
 handing_at k v s (some ps) = ok (handed_all k v s ps)
 
 -- how many words are in use after a trace, none where the value cannot be traced
-abbrev pub Answer : Type 0
-Answer = Maybe ℕ
+abbrev pub InUse : Type 0
+InUse = Maybe ℕ
 
 -- what the answer of a trace says, with the marks and the words after it
-abbrev pub told : Answer → List ℕ → List ℕ → Result Raw
+abbrev pub told : InUse → List ℕ → List ℕ → Result Raw
 told (Some n) marks words = ok (raw_of marks words n)
 told None marks words = refused 13

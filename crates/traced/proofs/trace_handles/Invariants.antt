@@ -2,11 +2,11 @@
 use Prim.Native.Nat.{◌+◌, ◌-◌, ◌*◌, ◌/◌}
 use mathlib.Core.Path.{◌≡◌}
 use lib.ListN.{length}
-use Rattle.trace.specs.Places.{rising, handles_places}
+use Rattle.trace.specs.Places.{handles_places, eight_apart}
 use Rattle.trace.specs.Inner.Emit.{raw_of, handed_all, words_to, into, slots_resolve}
 use Rattle.traced.proofs.trace_handles.Given as goal
 
 abbrev pub invariant-loop-i : goal.invariant-loop-i
-invariant-loop-i l = (handed_all (words_to (into l.sink (slots_resolve l.here))) l.«data» (raw_of l.marks l.to l.m) (rising (l.count - l.i) (24 + 8 * l.i))
+invariant-loop-i l = (handed_all (words_to (into l.sink (slots_resolve l.here))) l.«data» (raw_of l.marks l.to l.m) (eight_apart (l.count - l.i) (24 + 8 * l.i))
     ≡ handed_all (words_to (into l.sink (slots_resolve l.here))) l.«data» (raw_of l.initial.marks l.initial.to l.n) (handles_places (length l.«data»)))
     × (l.count ≡ (length l.«data» - 24) / 8)

@@ -1,5 +1,5 @@
 -- What the inner functions of the search for roots say of marks and work: the marking as crate `mark` has it, the notes in the upper halves of the words.
-use Rattle.trace.specs.Inner.Emit.{Answer}
+use Rattle.trace.specs.Inner.Emit.{InUse}
 use Rattle.std.specs.Prelude.{Option as Maybe, Some, None, ◌≡◌, Bool, true, false, List, map, ℕ, ◌≤◌, ◌<◌, length, get_or}
 use Rattle.std.proofs.Math.Option.{Option, none, some}
 use Rattle.mark.specs.Inner.Scratch.{high, state_of, Scratch}
@@ -12,7 +12,7 @@ abbrev pub going_of : (marks work : List ℕ) (n : ℕ) → Going
 going_of marks work n = going (state_of marks work n) (map high work)
 
 -- what the answer of a step says, with marks and work as they are then
-abbrev pub Goes : Answer → (slots : ℕ) (marks work : List ℕ) → Option Going → Type 0
+abbrev pub Goes : InUse → (slots : ℕ) (marks work : List ℕ) → Option Going → Type 0
 Goes (Some n) slots marks work o = (o ≡ some (going_of marks work n)) × Scratch slots marks work n
 Goes None slots marks work o = o ≡ none
 

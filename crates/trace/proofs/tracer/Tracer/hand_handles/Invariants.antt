@@ -2,12 +2,12 @@
 use Prim.Native.Nat.{◌+◌, ◌-◌, ◌*◌, ◌/◌}
 use mathlib.Core.Path.{◌≡◌}
 use lib.ListN.{length}
-use Rattle.trace.specs.Places.{rising, handles_places}
+use Rattle.trace.specs.Places.{handles_places, eight_apart}
 use Rattle.trace.specs.Inner.Emit.{raw_of, handed_all}
 use Rattle.trace.specs.Inner.Traced.{aimed}
 use Rattle.trace.proofs.tracer.Tracer.hand_handles.Given as goal
 
 abbrev pub invariant-loop-i : goal.invariant-loop-i
-invariant-loop-i l = (handed_all (aimed l.self) l.self.object.now (raw_of l.marks l.to l.m) (rising (l.count - l.i) (24 + 8 * l.i))
+invariant-loop-i l = (handed_all (aimed l.self) l.self.object.now (raw_of l.marks l.to l.m) (eight_apart (l.count - l.i) (24 + 8 * l.i))
     ≡ handed_all (aimed l.self) l.self.object.now (raw_of l.initial.marks l.initial.to l.n) (handles_places (length l.self.object.now)))
     × (l.count ≡ (length l.self.object.now - 24) / 8)
