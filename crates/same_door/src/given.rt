@@ -19,7 +19,7 @@ impl<'a> Given<'a> {
     ghost use Rattle.std.specs.Prelude.{[], ◌∷◌, IfOk};
     ghost use Rattle.heap.specs.Inner.Seen.{seen};
     ghost use Rattle.door.specs.HeapCalls.{heap_tests};
-ghost use Rattle.door.specs.Inner.Entered.{entry_of, Entered};
+    ghost use Rattle.door.specs.Inner.Entered.{entry_of, Entered};
     ghost use Rattle.same_door.specs.Inner.Given.{memory_of};
 
     // The heap, to be read, where scratch is enough and it is well formed.
