@@ -149,16 +149,7 @@ fn draw(random: &mut Random, heap: &Heap, handles: &[Handle]) -> Call {
     // at times all that lives
     let live = (0..slots as u32).map(Slot).filter(|i| heap.kind(*i).is_ok()).collect();
     let wanted = if random.below(2) == 0 { live } else { some(random.below(4), random) };
-    Call {
-        what: random.below(40),
-        handle,
-        slot: random.below(slots + 2) as u32,
-        number: if random.below(2) == 0 { random.below(300) } else { random.word() },
-        bytes: random.bytes(12),
-        room: random.below(14) as usize,
-        pins,
-        wanted,
-    }
+    Call { what: random.below(40), handle, slot: random.below(slots + 2) as u32, number: if random.below(2) == 0 { random.below(300) } else { random.word() }, bytes: random.bytes(12), room: random.below(14) as usize, pins, wanted }
 }
 
 // The call on both; what it was refused with.
