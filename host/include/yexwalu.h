@@ -6,7 +6,7 @@
  * where the length is 0), memory that a call may write is lent to no other parameter of it, and a bool is 0 or 1. Calls allocate nothing, keep no pointer, have no
  * state of their own. A call takes at most 128 KB of stack (YEXWALU_STACK_KB): measured by host/c/stack.c, not proved.
  *
- * An answer has document 01's number, 0 for success, and up to two values, zeros after a refusal. A refusal changes nothing, but 5 in alloc and
+ * An answer has a number, 0 for success or that of a refusal, and up to two values, zeros after a refusal. A refusal changes nothing, but 5 in alloc and
  * alloc_from (since_gc), 9 in a write to a live slot with nothing visible (its write count), run, whose lines before the refused one keep their effect, and
  * scratch, which is zero after all answers but 18. Numbers after a call's comment are its refusals.
  *

@@ -78,7 +78,7 @@ pub struct Figures {
     pub largest: u64,
 }
 
-/// Document 01's number, 0 for success, and the values, zeros after a refusal.
+/// A number, 0 for success or that of a refusal, and the values, zeros after a refusal.
 #[repr(C)]
 #[derive(Clone, Copy, Debug, PartialEq, Eq)]
 pub struct Answer {
