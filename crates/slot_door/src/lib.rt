@@ -158,8 +158,10 @@ fn first_misfit(table: &Table, view: View) -> Option<usize>
 
 // What `traceable` tells: 1 yes, and 0; or 0 no, and the first slot that does not fit.
 pub fn find_misfit(table: &Table, view: View) -> (u64, u64)
-    ensures { result ≡ (fit_number (misfit (table_in table.now) (state view.entry)),
-        misfit_number (misfit (table_in table.now) (state view.entry))) }
+    ensures { result ≡ (
+      fit_number (misfit (table_in table.now) (state view.entry)),
+      misfit_number (misfit (table_in table.now) (state view.entry)),
+    ) }
 {
     match first_misfit(table, view) {
         None => (1, 0),
