@@ -7,7 +7,7 @@ use Rattle.refusal.specs.declared.Answer.{Answer}
 use Rattle.refusal.specs.declared.Refusal.{Refusal}
 use Rattle.refusal.specs.declared.Refusal.TheVariants.{Untraceable}
 use Rattle.refusal.proofs.Numbers.{told-once}
-use Rattle.std.specs.Prelude.{Ok, Err, if◌then◌else◌, Option as Outcome}
+use Rattle.std.specs.Prelude.{Ok, Err, if◌then◌else◌}
 use Rattle.word.specs.Result.{Result, ok, refused}
 use Rattle.ty.specs.Types.{Table}
 use Rattle.ty.specs.View.{table_of}
@@ -23,7 +23,6 @@ use Rattle.door.specs.HeapCalls.{asked, Entry, ready}
 use Rattle.door.proofs.Entering.{ask-refused, ask-ready}
 use Rattle.slot_door.specs.SlotHandles.{slot_tests}
 use Rattle.slot_door.specs.Traceable.{traced, fits_table, first_failing, misfit, fit_number, misfit_number, fitting, trace_call}
-use Rattle.slot_door.specs.Inner.Misfit.{misfit_in}
 use Rattle.slot_door.proofs.SlotCalls.{fit-of}
 use Rattle.door.specs.Inner.Entered.{Entered}
 use Rattle.ty.specs.Inner.Lent.{lent as table_in}
