@@ -56,8 +56,9 @@ pub fn yexwalu_held_slot_handles(
     Answer::from(slot_door::list_slot(&table, view, slot, out))
 }
 
-// Do the heap and a type table fit together: has every object of kind Typed a type of the table, and can its handles be traced? first: 1 yes, 0 no. second: after no, the first slot that does not
-// fit; 0 after yes.
+// Do the heap and a type table fit together: has every object of kind Typed a type of the table, and
+// can its handles be traced? first: 1 yes, 0 no. second: after no, the first slot that does not fit;
+// 0 after yes.
 // Kept: the C interface lends the header and the heap in parts, and what a call here requires is said of these.
 pub fn yexwalu_held_traceable(
     types: &[u64],

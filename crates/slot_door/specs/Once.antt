@@ -1,4 +1,5 @@
--- The numbers of `traceable` tell apart what it finds: the refusal of a test, yes, or no with the first slot that does not fit. It is never refused by 13.
+-- The numbers of `traceable` tell apart what it finds: the refusal of a test, yes, or no with the
+-- first slot that does not fit. It is never refused by 13.
 use Rattle.std.specs.Prelude.{◌≡◌, ◌≢◌, ◌↔◌, ℕ, List, Result, Ok, Err}
 use Rattle.std.proofs.Math.Option.{Option, none}
 use Rattle.refusal.specs.Told.{number_of, refused_by}
@@ -27,7 +28,8 @@ abbrev pub FoundTold : Type 0
 FoundTold = (w fs cs b marks work : List ℕ) (l : Lent)
     → ((trace_call w fs cs b marks work l).answer ≡ finding_told (found w fs cs b marks work l)) × ((trace_call w fs cs b marks work l).answer.number ≢ 13)
 
--- the number is 0 exactly if no test fails, and the answer is yes exactly if no test fails and every slot fits
+-- the number is 0 exactly if no test fails, and the answer is yes exactly if no test fails and every
+-- slot fits
 abbrev pub FoundZero : Type 0
 FoundZero = (r : Finding) → (((finding_told r).number ≡ 0) ↔ ((o : Option ℕ) × (r ≡ Ok o))) × (((finding_told r).first ≡ 1) ↔ (r ≡ Ok none))
 

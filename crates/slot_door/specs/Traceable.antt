@@ -1,5 +1,6 @@
--- `traceable`: do a heap and a type table fit together? They do if every object of kind Typed has a type of the table and its handles can be traced. Where no test fails the answer
--- is 0: yes, or no with the first slot that does not fit.
+-- `traceable`: do a heap and a type table fit together? They do if every object of kind Typed has a
+-- type of the table and its handles can be traced. Where no test fails the number is 0, and the answer
+-- yes, or no with the first slot that does not fit.
 use Rattle.std.specs.Prelude.{ℕ, zero, suc, Bool, true, false, ◌&&◌, List, [], ◌∷◌, eqb, ltb, length, if◌then◌else◌}
 use Rattle.std.proofs.Math.Option.{Option, none, some}
 use Rattle.word.specs.Result.{Result, ok}

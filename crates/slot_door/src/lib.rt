@@ -1,4 +1,5 @@
-// The public calls on the slots of a heap and a type table: the handles that a slot shows, in the order in which they are traced (18, 1, 10, 9, 13, 7; after a refusal the lent list is as it was),
+// The public calls on the slots of a heap and a type table: the handles that a slot shows, in the
+// order in which they are traced (18, 1, 10, 9, 13, 7; after a refusal the lent list is as it was),
 // and whether heap and table fit together (18, 1, 10).
 #![tactic(auto)]
 
@@ -169,8 +170,9 @@ pub fn find_misfit(table: &Table, view: View) -> (u64, u64)
     }
 }
 
-// Do a heap and a type table fit together: has every object of kind Typed a type of the table, and can its handles be traced? 18, 1, 10. first: 1 yes, 0 no. second: after no, the first
-// slot that does not fit; 0 after yes.
+// Do a heap and a type table fit together: has every object of kind Typed a type of the table, and
+// can its handles be traced? 18, 1, 10. first: 1 yes, 0 no. second: after no, the first slot that
+// does not fit; 0 after yes.
 // Kept: the C interface lends each part by itself.
 pub fn yexwalu_traceable(
     types: &[u64],
