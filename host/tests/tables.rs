@@ -219,7 +219,9 @@ fn a_heap_that_does_not_fit_is_no_refusal() {
     assert_eq!(fits(&table, *heap.header(), heap.memory(), 4), (0, 0, 2));
     assert_eq!(heap.misfit(&table), Ok(Some(Slot(2))));
     assert_eq!(fits(&table, *heap.header(), heap.memory(), 3), (18, 0, 0));
-    assert_eq!(fits(&table, Header { reclaim_at: 1, ..*heap.header() }, heap.memory(), 4), (1, 0, 0));
+    let mut broken = *heap.header();
+    broken.reclaim_at = 1;
+    assert_eq!(fits(&table, broken, heap.memory(), 4), (1, 0, 0));
     table.types[0] = 9;
     assert_eq!(fits(&table, *heap.header(), heap.memory(), 4), (10, 0, 0));
 }
