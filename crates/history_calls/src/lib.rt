@@ -1,11 +1,16 @@
 // The calls that a history is of (crate `histories`), made: each function does no more than make a public call. Its contract is the public call's own, said by `contract`
-// of crates/histories/specs/Calls.antt: so it is the public calls that the theorems on histories speak of. Questions are apart: `QuestionsAreCalls` joins them.
+// of crates/histories/specs/Calls.antt: so it is the public calls that the theorems on histories speak of. Questions are apart: `QuestionsAreCalls` joins them. Those on two heaps are here,
+// said of each of the two.
 #![tactic(auto)]
 
 ghost use Rattle.std.specs.Prelude.{◌≡◌, [], ◌∷◌};
 ghost use Rattle.heap.specs.Lent.{lent};
 ghost use Rattle.door.specs.HeapCalls.{outcome, outcome_of};
-ghost use Rattle.histories.specs.Calls.{lending, contract};
+ghost use Rattle.histories.specs.Calls.{lending, contract, question};
+ghost use Rattle.histories.specs.Promises.{told_by};
+ghost use Rattle.refusal.specs.Told.{nothing};
+ghost use Rattle.heap.specs.Lent.{view};
+ghost use Rattle.saves.specs.Saves.{words_of, save_of, table_in, save_tests, scratch_of, ordering, same_number, order_number};
 ghost use Rattle.histories.specs.Calls.{alloc_from, reissue as reissued, edit as edited, write as written, take as taken, free as freed, recycle as recycled, seal as sealed};
 ghost use Rattle.histories.specs.Calls.{collect as collected, collect_joined as joined, run as ran};
 
@@ -251,4 +256,112 @@ pub fn run(
         (lent heap narrow.old wide.old pool.old) }
 {
     run_door::yexwalu_run(heap, narrow, wide, pool, script, room, marks, work)
+}
+
+// A call that compares two saves is a question on the heap of each.
+pub fn same(
+    types: &[u64],
+    fields: &[u32],
+    consts: &[u64],
+    bytes: &[u8],
+    heap: Heap,
+    narrow: &[u32],
+    wide: &[u64],
+    pool: &[u8],
+    other: Heap,
+    other_narrow: &[u32],
+    other_wide: &[u64],
+    other_pool: &[u8],
+    roots: &[u64],
+    other_roots: &[u64],
+    marks: &mut [u8],
+    work: &mut [u64],
+    other_marks: &mut [u8],
+    other_work: &mut [u64],
+) -> Answer
+    ensures first { outcome_of result (lent heap narrow.now wide.now pool.now) (marks.new ∷ work.new ∷ other_marks.new ∷ other_work.new ∷ [])
+        ≡ contract (lending [] [])
+        (question (scratch_of (save_of (lent heap narrow.now wide.now pool.now) roots.now marks.old work.old) (save_of (lent other other_narrow.now other_wide.now other_pool.now) other_roots.now other_marks.old other_work.old))
+        (save_tests (words_of types.now fields.now consts.now bytes.now) (save_of (lent heap narrow.now wide.now pool.now) roots.now marks.old work.old) (save_of (lent other other_narrow.now other_wide.now other_pool.now) other_roots.now other_marks.old other_work.old))
+        (λ h. told_by same_number nothing (ordering (table_in (words_of types.now fields.now consts.now bytes.now)) h (view (lent other other_narrow.now other_wide.now other_pool.now)) roots.now other_roots.now))) (lent heap narrow.now wide.now pool.now) }
+    ensures second { outcome_of result (lent other other_narrow.now other_wide.now other_pool.now) (marks.new ∷ work.new ∷ other_marks.new ∷ other_work.new ∷ [])
+        ≡ contract (lending [] [])
+        (question (scratch_of (save_of (lent heap narrow.now wide.now pool.now) roots.now marks.old work.old) (save_of (lent other other_narrow.now other_wide.now other_pool.now) other_roots.now other_marks.old other_work.old))
+        (save_tests (words_of types.now fields.now consts.now bytes.now) (save_of (lent heap narrow.now wide.now pool.now) roots.now marks.old work.old) (save_of (lent other other_narrow.now other_wide.now other_pool.now) other_roots.now other_marks.old other_work.old))
+        (λ h. told_by same_number nothing (ordering (table_in (words_of types.now fields.now consts.now bytes.now)) (view (lent heap narrow.now wide.now pool.now)) h roots.now other_roots.now))) (lent other other_narrow.now other_wide.now other_pool.now) }
+{
+    same_door::yexwalu_same(
+        types,
+        fields,
+        consts,
+        bytes,
+        heap,
+        narrow,
+        wide,
+        pool,
+        other,
+        other_narrow,
+        other_wide,
+        other_pool,
+        roots,
+        other_roots,
+        marks,
+        work,
+        other_marks,
+        other_work,
+    )
+}
+
+// Likewise.
+pub fn order(
+    types: &[u64],
+    fields: &[u32],
+    consts: &[u64],
+    bytes: &[u8],
+    heap: Heap,
+    narrow: &[u32],
+    wide: &[u64],
+    pool: &[u8],
+    other: Heap,
+    other_narrow: &[u32],
+    other_wide: &[u64],
+    other_pool: &[u8],
+    roots: &[u64],
+    other_roots: &[u64],
+    marks: &mut [u8],
+    work: &mut [u64],
+    other_marks: &mut [u8],
+    other_work: &mut [u64],
+) -> Answer
+    ensures first { outcome_of result (lent heap narrow.now wide.now pool.now) (marks.new ∷ work.new ∷ other_marks.new ∷ other_work.new ∷ [])
+        ≡ contract (lending [] [])
+        (question (scratch_of (save_of (lent heap narrow.now wide.now pool.now) roots.now marks.old work.old) (save_of (lent other other_narrow.now other_wide.now other_pool.now) other_roots.now other_marks.old other_work.old))
+        (save_tests (words_of types.now fields.now consts.now bytes.now) (save_of (lent heap narrow.now wide.now pool.now) roots.now marks.old work.old) (save_of (lent other other_narrow.now other_wide.now other_pool.now) other_roots.now other_marks.old other_work.old))
+        (λ h. told_by order_number nothing (ordering (table_in (words_of types.now fields.now consts.now bytes.now)) h (view (lent other other_narrow.now other_wide.now other_pool.now)) roots.now other_roots.now))) (lent heap narrow.now wide.now pool.now) }
+    ensures second { outcome_of result (lent other other_narrow.now other_wide.now other_pool.now) (marks.new ∷ work.new ∷ other_marks.new ∷ other_work.new ∷ [])
+        ≡ contract (lending [] [])
+        (question (scratch_of (save_of (lent heap narrow.now wide.now pool.now) roots.now marks.old work.old) (save_of (lent other other_narrow.now other_wide.now other_pool.now) other_roots.now other_marks.old other_work.old))
+        (save_tests (words_of types.now fields.now consts.now bytes.now) (save_of (lent heap narrow.now wide.now pool.now) roots.now marks.old work.old) (save_of (lent other other_narrow.now other_wide.now other_pool.now) other_roots.now other_marks.old other_work.old))
+        (λ h. told_by order_number nothing (ordering (table_in (words_of types.now fields.now consts.now bytes.now)) (view (lent heap narrow.now wide.now pool.now)) h roots.now other_roots.now))) (lent other other_narrow.now other_wide.now other_pool.now) }
+{
+    same_door::yexwalu_order(
+        types,
+        fields,
+        consts,
+        bytes,
+        heap,
+        narrow,
+        wide,
+        pool,
+        other,
+        other_narrow,
+        other_wide,
+        other_pool,
+        roots,
+        other_roots,
+        marks,
+        work,
+        other_marks,
+        other_work,
+    )
 }
