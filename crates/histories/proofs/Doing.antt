@@ -32,7 +32,8 @@ use Rattle.saves.specs.Saves.{ordering, same_number, order_number, Save, Words, 
 use Rattle.histories.specs.Steps.{Told, Step, alloc, reissue, edit, write, take, free, recycle, seal, collect, ask, nothing as silence, handle, slot, object, told, saying, answering, silently, doing, Value}
 use Rattle.histories.specs.History.{after}
 use Rattle.histories.specs.Calls.{Scratch, Call, alloc_from, reissue as reissue_call, edit as edit_call, write as write_call, take as take_out, free as free_call, recycle as recycle_call, seal as seal_call, collect as collect_call, collect_joined, run, question, leaving, contract, turned, joined_step, line_step, unless_refused, line_steps, steps}
-use Rattle.histories.specs.Promises.{numbers, ended_by, ending, first_told, said_of, Does, CallsDoSteps, told_by, QuestionsAreCalls, OnBoth, ComparisonsAreCalls}
+use Rattle.histories.specs.Promises.{numbers, ended_by, ending, first_told, said_of, Does, CallsDoSteps}
+use Rattle.histories.specs.Questions.{told_by, QuestionsAreCalls, AsksBoth, ComparisonsAreCalls}
 use Rattle.histories.proofs.Histories.{after-grew}
 use Rattle.code.specs.Lent.{function}
 use lib.ListN.{length}
@@ -181,17 +182,23 @@ unfolding replying
 second-asked {A} first second scratch ts l m here-asked there-asked e =
     ap (λ (r : Result A). leaving m (whether (admitted ts) (λ why. asked_of (refused_by (number_of why)) (scratch_after (Err why) scratch)) (asked_of (answered first second r) (map zeros scratch)))) e
 
-on-both : (number : Ordering → ℕ) (w : Words) (s t : Save) → OnBoth (comparing number w s t) number w s t
-on-both number w s t = record {
-  first = λ x. questions-are-calls Ordering number (λ _. 0) x (scratch_of s t) (save_tests w s t) s.heap (λ h. ordering (table_in_words w) h (view t.heap) s.roots t.roots);
-  second = λ x.
-      second-asked number (λ _. 0) (scratch_of s t) (save_tests w s t) s.heap t.heap (λ h. ordering (table_in_words w) h (view t.heap) s.roots t.roots)
-      (λ h. ordering (table_in_words w) (view s.heap) h s.roots t.roots) refl
-      ∙ questions-are-calls Ordering number (λ _. 0) x (scratch_of s t) (save_tests w s t) t.heap (λ h. ordering (table_in_words w) (view s.heap) h s.roots t.roots);
-}
+asks-both : (number : Ordering → ℕ) (w : Words) (s t : Save) → AsksBoth number w s t (comparing number w s t)
+asks-both number w s t =
+    record {
+      first = λ x. questions-are-calls Ordering number nothing x (scratch_of s t) (save_tests w s t) s.heap here-asked;
+      second = λ x.
+          second-asked number nothing (scratch_of s t) (save_tests w s t) s.heap t.heap here-asked there-asked refl
+          ∙ questions-are-calls Ordering number nothing x (scratch_of s t) (save_tests w s t) t.heap there-asked;
+    }
+  where
+    here-asked : State → Result Ordering
+    here-asked h = ordering (table_in_words w) h (view t.heap) s.roots t.roots
+
+    there-asked : State → Result Ordering
+    there-asked h = ordering (table_in_words w) (view s.heap) h s.roots t.roots
 
 pub comparisons-are-calls : ComparisonsAreCalls
-comparisons-are-calls w s t = (on-both same_number w s t, on-both order_number w s t)
+comparisons-are-calls w s t = (asks-both same_number w s t, asks-both order_number w s t)
 
 -- ---- every call
 

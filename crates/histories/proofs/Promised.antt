@@ -1,4 +1,4 @@
--- Histories of public calls on lent memory: 02, [8]. Assumes nothing.
+-- Histories of public calls on lent memory. Assumes nothing.
 use mathlib.Core.Path.{◌≡◌, refl, sym, ap, ◌∙◌, subst}
 use mathlib.Core.Bool.{true}
 use mathlib.Core.List.{List, [], ◌∷◌, ◌++◌}
@@ -64,7 +64,7 @@ lies-after (m ∷ ms) l wf =
     let a = call_lies m.scratch m.call l wf in
     lies-on a (lies-after ms (contract m.scratch m.call l).heap a.formed)
 
--- ---- the request
+-- ---- what is promised
 
 module _ (l : Lent) (wf : well_formed l ≡ true) (ms : List Made) where
   abbrev S : ℕ
@@ -92,6 +92,7 @@ module _ (l : Lent) (wf : well_formed l ≡ true) (ms : List Made) where
         once = once S P (all_steps ms l) (view l) sound-in;
         never = λ before next later rest x e. never-again before next later x;
         lies = met.heap;
+        formed = met.formed;
         objects = λ n lost. omega (arith, objects S P (all_steps ms l) (view l) sound-in n lost, ap (λ (h : State). live_count h.slots) met.heap);
         counted = counted S P (all_steps ms l) (view l) sound-in;
         slots = omega (arith, slots S P (all_steps ms l) (view l) sound-in, ap (λ (h : State). length h.slots) met.heap);

@@ -1,5 +1,6 @@
--- Every public call on a heap in lent memory (02, [8]), with what its host gives it; what its contract says that it answers and leaves; and the steps that it comes to.
--- `new` and `read_page` make or load a heap and stand before a history, not in it.
+-- Every public call on a heap in lent memory, with what its host gives it; what its contract says that it
+-- answers and leaves; and the steps that it comes to. `new` and `read_page` make or load a heap and stand
+-- before a history, not in it.
 use Rattle.std.specs.Prelude.{List, [], ◌∷◌, ◌++◌, ℕ, length}
 use Rattle.std.proofs.Math.Option.{Option, none, some}
 use Rattle.word.specs.Result.{Result, ok, refused}
@@ -31,8 +32,9 @@ pub record Scratch : Type 0 where
 abbrev pub lending : (marks work : List ℕ) → Scratch
 lending marks work = record { marks = marks; work = work; rows = []; room = [] }
 
--- Each call with its arguments. `alloc` is `allocFrom` with start 0. `question` is each call that is lent a heap to read: the scratch that it is lent, what it tests, and what it asks of
--- the heap. It may be lent a second heap, as `same` and `order` are: then scratch and tests are of both.
+-- Each call with its arguments. `alloc` is `alloc_from` with start 0. `question` is each call that is lent a
+-- heap to read: the scratch that it is lent, what it tests first, and what it asks of the heap. `same` and
+-- `order` are lent a second heap: scratch and tests are then of both (specs/Questions.antt).
 pub data Call : Type 0 where
   alloc_from : (kind type start : ℕ) (bytes : List ℕ) → Call
   reissue : (i grown : ℕ) → Call

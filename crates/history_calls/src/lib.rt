@@ -1,18 +1,17 @@
-// The calls that a history is of (crate `histories`), made: each function does no more than make a public call. Its contract is the public call's own, said by `contract`
-// of crates/histories/specs/Calls.antt: so it is the public calls that the theorems on histories speak of. Questions are apart: `QuestionsAreCalls` joins them. Those on two heaps are here,
-// said of each of the two.
+// The calls that a history is of (crate `histories`), made: each function does no more than make a public call.
+// Its contract is the public call's own, said by `contract` of crates/histories/specs/Calls.antt: so it is the
+// public calls that the theorems on histories speak of. Questions are apart, as `QuestionsAreCalls` joins them;
+// but `same` and `order` are here, which are lent two heaps.
 #![tactic(auto)]
 
 ghost use Rattle.std.specs.Prelude.{◌≡◌, [], ◌∷◌};
 ghost use Rattle.heap.specs.Lent.{lent};
-ghost use Rattle.door.specs.HeapCalls.{outcome, outcome_of};
-ghost use Rattle.histories.specs.Calls.{lending, contract, question};
-ghost use Rattle.histories.specs.Promises.{told_by};
-ghost use Rattle.refusal.specs.Told.{nothing};
-ghost use Rattle.heap.specs.Lent.{view};
-ghost use Rattle.saves.specs.Saves.{words_of, save_of, table_in, save_tests, scratch_of, ordering, same_number, order_number};
+ghost use Rattle.door.specs.HeapCalls.{outcome, outcome_of, asked_of};
+ghost use Rattle.histories.specs.Calls.{lending, contract};
 ghost use Rattle.histories.specs.Calls.{alloc_from, reissue as reissued, edit as edited, write as written, take as taken, free as freed, recycle as recycled, seal as sealed};
 ghost use Rattle.histories.specs.Calls.{collect as collected, collect_joined as joined, run as ran};
+ghost use Rattle.histories.specs.Questions.{AsksBoth};
+ghost use Rattle.saves.specs.Saves.{words_of, save_of, same_number, order_number};
 
 use door::Done;
 use heap::Heap;
@@ -258,7 +257,8 @@ pub fn run(
     run_door::yexwalu_run(heap, narrow, wide, pool, script, room, marks, work)
 }
 
-// A call that compares two saves is a question on the heap of each.
+// A question to the heap of each of two saves.
+// Kept: it has the parameters of the C interface's call, whose contract it is to show.
 pub fn same(
     types: &[u64],
     fields: &[u32],
@@ -279,16 +279,11 @@ pub fn same(
     other_marks: &mut [u8],
     other_work: &mut [u64],
 ) -> Answer
-    ensures first { outcome_of result (lent heap narrow.now wide.now pool.now) (marks.new ∷ work.new ∷ other_marks.new ∷ other_work.new ∷ [])
-        ≡ contract (lending [] [])
-        (question (scratch_of (save_of (lent heap narrow.now wide.now pool.now) roots.now marks.old work.old) (save_of (lent other other_narrow.now other_wide.now other_pool.now) other_roots.now other_marks.old other_work.old))
-        (save_tests (words_of types.now fields.now consts.now bytes.now) (save_of (lent heap narrow.now wide.now pool.now) roots.now marks.old work.old) (save_of (lent other other_narrow.now other_wide.now other_pool.now) other_roots.now other_marks.old other_work.old))
-        (λ h. told_by same_number nothing (ordering (table_in (words_of types.now fields.now consts.now bytes.now)) h (view (lent other other_narrow.now other_wide.now other_pool.now)) roots.now other_roots.now))) (lent heap narrow.now wide.now pool.now) }
-    ensures second { outcome_of result (lent other other_narrow.now other_wide.now other_pool.now) (marks.new ∷ work.new ∷ other_marks.new ∷ other_work.new ∷ [])
-        ≡ contract (lending [] [])
-        (question (scratch_of (save_of (lent heap narrow.now wide.now pool.now) roots.now marks.old work.old) (save_of (lent other other_narrow.now other_wide.now other_pool.now) other_roots.now other_marks.old other_work.old))
-        (save_tests (words_of types.now fields.now consts.now bytes.now) (save_of (lent heap narrow.now wide.now pool.now) roots.now marks.old work.old) (save_of (lent other other_narrow.now other_wide.now other_pool.now) other_roots.now other_marks.old other_work.old))
-        (λ h. told_by same_number nothing (ordering (table_in (words_of types.now fields.now consts.now bytes.now)) (view (lent heap narrow.now wide.now pool.now)) h roots.now other_roots.now))) (lent other other_narrow.now other_wide.now other_pool.now) }
+    ensures { AsksBoth same_number (words_of types.now fields.now consts.now bytes.now)
+        (save_of (lent heap narrow.now wide.now pool.now) roots.now marks.old work.old)
+        (save_of (lent other other_narrow.now other_wide.now other_pool.now)
+        other_roots.now other_marks.old other_work.old)
+        (asked_of result (marks.new ∷ work.new ∷ other_marks.new ∷ other_work.new ∷ [])) }
 {
     same_door::yexwalu_same(
         types,
@@ -312,7 +307,7 @@ pub fn same(
     )
 }
 
-// Likewise.
+// As `same`.
 pub fn order(
     types: &[u64],
     fields: &[u32],
@@ -333,16 +328,11 @@ pub fn order(
     other_marks: &mut [u8],
     other_work: &mut [u64],
 ) -> Answer
-    ensures first { outcome_of result (lent heap narrow.now wide.now pool.now) (marks.new ∷ work.new ∷ other_marks.new ∷ other_work.new ∷ [])
-        ≡ contract (lending [] [])
-        (question (scratch_of (save_of (lent heap narrow.now wide.now pool.now) roots.now marks.old work.old) (save_of (lent other other_narrow.now other_wide.now other_pool.now) other_roots.now other_marks.old other_work.old))
-        (save_tests (words_of types.now fields.now consts.now bytes.now) (save_of (lent heap narrow.now wide.now pool.now) roots.now marks.old work.old) (save_of (lent other other_narrow.now other_wide.now other_pool.now) other_roots.now other_marks.old other_work.old))
-        (λ h. told_by order_number nothing (ordering (table_in (words_of types.now fields.now consts.now bytes.now)) h (view (lent other other_narrow.now other_wide.now other_pool.now)) roots.now other_roots.now))) (lent heap narrow.now wide.now pool.now) }
-    ensures second { outcome_of result (lent other other_narrow.now other_wide.now other_pool.now) (marks.new ∷ work.new ∷ other_marks.new ∷ other_work.new ∷ [])
-        ≡ contract (lending [] [])
-        (question (scratch_of (save_of (lent heap narrow.now wide.now pool.now) roots.now marks.old work.old) (save_of (lent other other_narrow.now other_wide.now other_pool.now) other_roots.now other_marks.old other_work.old))
-        (save_tests (words_of types.now fields.now consts.now bytes.now) (save_of (lent heap narrow.now wide.now pool.now) roots.now marks.old work.old) (save_of (lent other other_narrow.now other_wide.now other_pool.now) other_roots.now other_marks.old other_work.old))
-        (λ h. told_by order_number nothing (ordering (table_in (words_of types.now fields.now consts.now bytes.now)) (view (lent heap narrow.now wide.now pool.now)) h roots.now other_roots.now))) (lent other other_narrow.now other_wide.now other_pool.now) }
+    ensures { AsksBoth order_number (words_of types.now fields.now consts.now bytes.now)
+        (save_of (lent heap narrow.now wide.now pool.now) roots.now marks.old work.old)
+        (save_of (lent other other_narrow.now other_wide.now other_pool.now)
+        other_roots.now other_marks.old other_work.old)
+        (asked_of result (marks.new ∷ work.new ∷ other_marks.new ∷ other_work.new ∷ [])) }
 {
     same_door::yexwalu_order(
         types,
