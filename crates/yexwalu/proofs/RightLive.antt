@@ -9,6 +9,7 @@ use lib.ListN.{length, take, drop, length-append, length-take, take-append-drop}
 use lib.Seq.{take-length, take_at, drop_at, drop-length, drop-drop}
 use lib.Dec.{ltb}
 use borrow.Author.Tests.{ltb-true, ltb-false}
+use mathlib.Core.Logic.{◌⊎◌, inl, inr}
 use Rattle.word.specs.Result.{Result, ok, refused}
 use Rattle.word.specs.Put.{put}
 use Rattle.word.specs.Run.{run}
@@ -132,6 +133,8 @@ module _ (l : Lent) (t : ℕ → Bool) (good : right l ≡ true) where
       → (length bs ≡ length ps) × (drop from xs ≡ flat_map at ps)
   unfolding flat_map run
   only-from [] [] xs from k m = (refl, ap (λ (n : ℕ). drop n xs) m ∙ drop-length xs)
+  only-from [] (b ∷ bs) xs from k m = elim m [ ]
+  only-from (p ∷ ps) [] xs from k m = elim m [ ]
   only-from (p ∷ ps) (b ∷ bs) xs from k m =
       let rest = only-from ps bs xs b k.1 m.2 in
       let is : take (b - from) (drop from xs) ≡ at p = map-unique m.1 (registers-live l t p good k.0) in
