@@ -5,7 +5,6 @@ use Rattle.word.proofs.Bools.{and_both}
 use Rattle.refusal.specs.Told.{refused_by, answered}
 use Rattle.refusal.specs.declared.Answer.{Answer}
 use Rattle.heap.specs.State.{State, data_size}
-use Rattle.heap.specs.Packing.{pad}
 use Rattle.heap.specs.Lent.{Lent, stored, view, slot_count, pool_size}
 use Rattle.heap.specs.WellFormed.{partitioned, retired_rightly, sound, fits, well_formed}
 use Rattle.heap.proofs.Sound.{WellFormed}
@@ -25,14 +24,14 @@ use Rattle.page_reader.proofs.Loaded.{passed, few-numbers}
 use Rattle.door.specs.HeapCalls.{Outcome, enough}
 use Rattle.door.proofs.Entering.{is-enough}
 use Rattle.page_door.specs.Page.{reading}
-use Rattle.theorems.specs.PageCalls.{Reads, unlogged, done, Scratch, Room, SameSizes, TookIn}
+use Rattle.theorems.specs.PageCalls.{Reads, unlogged, Scratch, Room, SameSizes, TookIn}
 use Rattle.pages.specs.Reading.{read_page}
 use Rattle.word.proofs.ResultLaws.{not-refused}
 use mathlib.Core.Bool.{Bool, true, false, ◌&&◌}
 use mathlib.Core.List.{List}
 use mathlib.Core.Option.{some}
 use mathlib.Core.Path.{◌≡◌, refl, ap, ◌∙◌}
-use lib.Dec.{leb, eqb, ltb}
+use lib.Dec.{leb, eqb}
 use lib.ListN.{length}
 use native.Mathlib.Omega.{arith}
 use borrow.Author.Tests.{le-leb, le-ltb, eq-eqb}

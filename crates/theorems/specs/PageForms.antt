@@ -1,13 +1,13 @@
 -- Pages of every form (requests [6], [7] and [11]): each is read to the heap that it brings, and that heap is written with planes or data, as the host says; which form was met is told; the earlier reader takes none of the new.
 use Rattle.std.specs.Prelude.{ℕ, Bool, true, List, ◌↔◌, ◌≡◌}
 use Rattle.std.proofs.Math.Option.{some}
-use Rattle.word.specs.Result.{refused}
+use Rattle.word.specs.Result.{ok, refused}
 use Rattle.refusal.specs.declared.Answer.{Answer}
 use Rattle.heap.specs.State.{State}
 use Rattle.heap.specs.Lent.{Lent, view}
 use Rattle.heap.specs.WellFormed.{sound}
 use Rattle.pages.specs.Form.{Form, written, earlier}
-use Rattle.pages.specs.Page.{page_text, Within, brought}
+use Rattle.pages.specs.Page.{page_text, Within, Unsaved, brought}
 use Rattle.page_parser.specs.Contents.{form_in, heap_in}
 use Rattle.theorems.specs.PageCalls.{Writes, Reads, Scratch, Room, TookIn, WroteText, met}
 use Rattle.theorems.specs.PageHeapPage.{TextRead}
@@ -24,6 +24,14 @@ EveryFormRead =
 -- what the earlier reader took is read in the earlier form to the same heap, and nothing else is
 abbrev pub EarlierStillRead : Type 0
 EarlierStillRead = (text : List ℕ) (h : State) → (earlier_read text ≡ some h) ↔ (read_page text ≡ some (earlier, h))
+
+-- what the earlier reader reads a text as is the heap whose page in the earlier form the text is, and it reads every such page
+abbrev pub EarlierReads : Type 0
+EarlierReads = (text : List ℕ) (h : State) → (earlier_read text ≡ some h) ↔ ((page_text earlier h ≡ text) × Within earlier h × Unsaved h)
+
+-- so every text that it took in, into whatever memory, is a page of the earlier form
+abbrev pub EarlierTakes : Type 0
+EarlierTakes = (l : Lent) (text : List ℕ) (f : Form) → (earlier_into l text).answer ≡ ok f → (h : State) × (page_text earlier h ≡ text) × Within earlier h
 
 -- the earlier reader answers 17 to every page that is written, and leaves lent memory as it was
 abbrev pub EarlierRefuses : Type 0

@@ -1,9 +1,10 @@
 -- Figures for a whole shelf (request [14]): what the last line says, any order of the pages, shelves put together, and that a run prints what is defined.
 use Rattle.std.specs.Prelude.{ℕ, ◌+◌, ◌^◌, ◌≤◌, ◌<◌, max, Bool, false, ◌≡◌, length, take, drop}
-use mathlib.Core.List.{List, [], ◌∷◌, ◌++◌, map, foldr}
+use mathlib.Core.List.{List, [], ◌∷◌, ◌++◌, map, foldl, foldr}
 use Rattle.text.specs.Text.{decimal, newline, All}
 use Rattle.figures.specs.declared.Figures.{Figures}
-use Rattle.figures.specs.Figures.{merge, total, figures_line}
+use Rattle.figures.specs.Figures.{no_figures, merge, total, figures_line}
+use Rattle.held_figures.specs.Totals.{in_words}
 use Rattle.shelves.specs.declared.At.TheVariants.{Over}
 use Rattle.shelves.specs.declared.Shelf.{Shelf}
 use Rattle.shelves.specs.Shelf.{whole, pages_in, answers_of, answer_lines, accepted, names_line, last_line, shelf_text}
@@ -59,11 +60,21 @@ AnyOrder =
     (failed : Bool) (ps qs : List (List ℕ)) (rest : List ℕ) → Reordered ps qs → length ps ≤ 1000000 → Measurable ps →
     last_line (answers_of failed (shelf_of ps ++ rest)) ≡ last_line (answers_of failed (shelf_of qs ++ rest))
 
+-- ANY ORDER, OF INPUTS: two inputs of which no page was cut off, the pages of the one those of the other in another order, have the same last line
+abbrev pub AnyOrderOfInputs : Type 0
+AnyOrderOfInputs =
+    (failed failed' : Bool) (input input' : List ℕ) (ps qs : List (List ℕ)) → pages_in 1000000 failed input ≡ map whole ps → pages_in 1000000 failed' input' ≡ map whole qs → Reordered ps qs →
+    last_line (answers_of failed input) ≡ last_line (answers_of failed' input')
+
 -- TWO SHELVES TOGETHER have the totals of each merged
 abbrev pub Together : Type 0
 Together =
     (ps qs : List (List ℕ)) → length ps + length qs ≤ 1000000 → Measurable ps → Measurable qs →
     last_figures false (shelf_of ps ++ shelf_of qs) ≡ merge (last_figures false (shelf_of ps)) (last_figures false (shelf_of qs))
+
+-- PAGE AFTER PAGE ADDED UP IN WORDS of 64 bits gives the totals of all, as far as such words go
+abbrev pub AddedInWords : Type 0
+AddedInWords = (fs : List Figures) → in_words (foldl (λ (t f : Figures). in_words (merge t f)) no_figures fs) ≡ in_words (total fs)
 
 -- ---- a run
 

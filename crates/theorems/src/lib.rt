@@ -1,5 +1,19 @@
-// The great theorems on the public calls: each statement has its name in specs/, its proof in proofs/.
+// The theorems on the public calls: each is what one function promises, which has no parameters and does nothing. A module a subject; the statements are those of
+// specs/, or of the crate that a statement is about, and the proofs stand likewise.
 #![tactic(auto)]
+
+pub mod collecting;
+pub mod handle_places;
+pub mod layouts;
+pub mod new_heaps;
+pub mod page_forms;
+pub mod page_lengths;
+pub mod page_program;
+pub mod page_trips;
+pub mod save_order;
+pub mod shelf_lines;
+pub mod table_trips;
+pub mod traceable;
 
 ghost use Rattle.table_reader.specs.Reading.{lists};
 ghost use Rattle.theorems.specs.TableText.{TableWords};

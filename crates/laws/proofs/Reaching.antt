@@ -1,0 +1,21 @@
+-- The laws of marking and of a sweep. Assumes nothing.
+use Prim.Native.Nat.{ℕ}
+use Rattle.reach.specs.Reach.{Graph}
+use Rattle.reach.proofs.Sound.{Sized, refused, kept, lost}
+use Rattle.collection.proofs.SweptLaws.{swept-epoch, last-logged}
+use Rattle.laws.specs.Reaching.{SlotsBelow, MarkingFails, MarkingMarks, SweepRaisesEpoch, LastDroppedLogged}
+
+sized : (G : Graph) (n : ℕ) → SlotsBelow G n → Sized G n
+sized G n b = record { resolves = b.resolves; lives = b.lives }
+
+pub marking-fails : MarkingFails
+marking-fails G S n b = refused G S n (sized G n b)
+
+pub marking-marks : MarkingMarks
+marking-marks G S n b m e o l = record { kept = kept G S n (sized G n b) m e o l; lost = lost G S n (sized G n b) m e o l }
+
+pub sweep-raises-epoch : SweepRaisesEpoch
+sweep-raises-epoch = swept-epoch
+
+pub last-dropped-logged : LastDroppedLogged
+last-dropped-logged = last-logged
