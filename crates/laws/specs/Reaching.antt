@@ -1,9 +1,14 @@
 -- Marking with a queue against chains of objects, and what a sweep does to the epoch and the log.
 use Rattle.std.specs.Prelude.{ℕ, ◌+◌, ◌%◌, ◌^◌, ◌<◌, true, List, [], ◌∷◌, ◌++◌, length, get_or, ◌≡◌, ◌↔◌}
-use Rattle.std.proofs.Math.Option.{none, some}
+use Rattle.std.proofs.Math.Option.{Option, none, some}
+use Rattle.word.specs.Result.{ok, refused}
 use Rattle.heap.specs.State.{State}
+use Rattle.heap.specs.Calls.{Changed}
 use Rattle.reach.specs.Reach.{Graph, Starts, Reached, UntraceableFrom}
 use Rattle.reach.specs.Marking.{State as Marking, marking}
+use Rattle.collection.specs.Collected.{graph}
+use Rattle.collection.specs.Collecting.{collected}
+use Rattle.collection.specs.Demand.{Survived}
 use Rattle.collection.specs.Swept.{swept, dropped, drop_slots}
 
 -- a graph of n slots: what resolves and what lives is below n
@@ -24,6 +29,21 @@ abbrev pub MarkingMarks : Type 0
 MarkingMarks =
     (G : Graph) (S : Starts) (n : ℕ) → SlotsBelow G n → (m : Marking) → marking G S n ≡ some m
     → (o : ℕ) → o < n → MarksReached G S m.marks o
+
+-- a collection of h, whose objects are those of G, where chains start at S: what it answers and leaves
+pub record CollectsRightly (G : Graph) (S : Starts) (h : State) (r : Changed Unit) : Type 0 where
+  -- 13 exactly where a reached object can't be traced, and then the heap is as it was
+  pub untraceable : (r.answer ≡ refused 13) ↔ UntraceableFrom G S
+  pub unchanged : r.answer ≡ refused 13 → r.heap ≡ h
+  -- else it succeeds, and what is reached survives, as it was, and nothing else
+  pub succeeds : (UntraceableFrom G S → ⊥) → r.answer ≡ ok tt
+  pub survived : r.answer ≡ ok tt → Survived G S h r.heap
+
+-- the sweep by a marking, or 13, is that of a collection
+abbrev pub SweepCollects : Type 0
+SweepCollects =
+    (h : State) (handles : ℕ → Option (List ℕ)) (S : Starts)
+    → CollectsRightly (graph h handles) S h (collected (graph h handles) S h)
 
 -- a sweep raises the epoch by the number of slots that it drops, wrapping at 64 bits
 abbrev pub SweepRaisesEpoch : Type 0

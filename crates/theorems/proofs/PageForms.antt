@@ -22,7 +22,7 @@ use Rattle.pages.specs.Page.{slot_line, value_line, retired_part, page_text, Wit
 use Rattle.pages.specs.Reading.{slot_format, Head, Body, state_of, head_of, body_of, whole, read_page}
 use Rattle.pages.proofs.Laws.{Head-good, Body-good, head-right, slot-right, last, head-prints, slot-prints, value-prints, flat_map-same, good-saved, within-read, whole-some, same-unsaved, read-written, written_read, read-exactly}
 use Rattle.theorems.specs.EarlierPage.{earlier_heap_names, earlier_slot_names, earlier_body, earlier_format, earlier_read, earlier_verdict, earlier_into}
-use Rattle.theorems.specs.PageForms.{EveryFormRead, EarlierStillRead, EarlierReads, EarlierTakes, EarlierRefuses, EarlierRewritten, FormTold, FormsTold}
+use Rattle.theorems.specs.PageForms.{EveryFormRead, EarlierStillRead, EarlierReads, EarlierTakes, EarlierRefusesOthers, EarlierRefuses, EarlierRewritten, FormTold, FormsTold}
 use Rattle.word.proofs.ResultLaws.{not-refused}
 use Rattle.theorems.proofs.PageReading.{page-taken}
 use Rattle.theorems.proofs.PageHeapPage.{kept, writes-text}
@@ -116,18 +116,21 @@ earlier-takes l text f e = go (earlier_read text) refl e
     go none q z = not-refused z
     go (some h) q z = let r = (earlier-reads text h).0 q in (h, r.0, r.1)
 
-not-read : (p : Bool) (h : State) → Within (written p) h → earlier_read (page_text (written p) h) ≡ none
-not-read p h w = go (earlier_read (page_text (written p) h)) refl
+not-read : (f : Form) (h : State) → (f ≡ earlier → ⊥) → Within f h → earlier_read (page_text f h) ≡ none
+not-read f h other w = go (earlier_read (page_text f h)) refl
   where
-    go : (o : Option State) → earlier_read (page_text (written p) h) ≡ o → o ≡ none
+    go : (o : Option State) → earlier_read (page_text f h) ≡ o → o ≡ none
     go none e = refl
     go (some g) e =
-        let v : ◌≡◌ {A = Form × State} (written p, state_of (head_of h) (body_of h)) (earlier, g) = some_inj (sym (read-written (written p) h w) ∙ still (page_text (written p) h) g e) in
-        absurd (true-false (ap (λ (x : Form × State). x.0.wide) v))
+        let v : ◌≡◌ {A = Form × State} (f, state_of (head_of h) (body_of h)) (earlier, g) = some_inj (sym (read-written f h w) ∙ still (page_text f h) g e) in
+        absurd (other (ap (λ (x : Form × State). x.0) v))
+
+pub earlier-refuses-others : EarlierRefusesOthers
+unfolding earlier_into earlier_verdict
+earlier-refuses-others f l h other w = rw (not-read f h other w)
 
 pub earlier-refuses : EarlierRefuses
-unfolding earlier_into earlier_verdict
-earlier-refuses p l h w = rw (not-read p h w)
+earlier-refuses p l h w = earlier-refuses-others (written p) l h (λ e. true-false (ap (λ (f : Form). f.wide) e)) w
 
 -- ---- written again in the form that is written
 

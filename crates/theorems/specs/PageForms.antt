@@ -1,4 +1,5 @@
--- Pages of every form (requests [6], [7] and [11]): each is read to the heap that it brings, and that heap is written with planes or data, as the host says; which form was met is told; the earlier reader takes none of the new.
+-- Pages of every form: each is read to the heap that it brings, and that heap is written with planes or data, as the
+-- host says; which form was met is told; the earlier reader takes pages of its own form and no others.
 use Rattle.std.specs.Prelude.{ℕ, Bool, true, List, ◌↔◌, ◌≡◌}
 use Rattle.std.proofs.Math.Option.{some}
 use Rattle.word.specs.Result.{ok, refused}
@@ -21,7 +22,7 @@ EveryFormRead =
     (f : Form) (h : State) (m : Lent) (marks work : List ℕ) (r : Answer) (m' : Lent) (marks' work' : List ℕ) →
     Within f h → sound (brought (f, h)) ≡ true → Room (brought (f, h)) m → Scratch m marks work → Reads m (page_text f h) marks work r m' marks' work' → TookIn f (brought (f, h)) m r m'
 
--- what the earlier reader took is read in the earlier form to the same heap, and nothing else is
+-- what the earlier reader takes is read in the earlier form to the same heap, and nothing else is
 abbrev pub EarlierStillRead : Type 0
 EarlierStillRead = (text : List ℕ) (h : State) → (earlier_read text ≡ some h) ↔ (read_page text ≡ some (earlier, h))
 
@@ -33,7 +34,13 @@ EarlierReads = (text : List ℕ) (h : State) → (earlier_read text ≡ some h) 
 abbrev pub EarlierTakes : Type 0
 EarlierTakes = (l : Lent) (text : List ℕ) (f : Form) → (earlier_into l text).answer ≡ ok f → (h : State) × (page_text earlier h ≡ text) × Within earlier h
 
--- the earlier reader answers 17 to every page that is written, and leaves lent memory as it was
+-- the earlier reader answers 17 to every page of another form, and leaves lent memory as it was
+abbrev pub EarlierRefusesOthers : Type 0
+EarlierRefusesOthers =
+    (f : Form) (l : Lent) (h : State) → (f ≡ earlier → ⊥) → Within f h
+    → earlier_into l (page_text f h) ≡ record { lent = l; answer = refused 17 }
+
+-- and so to every page that is written
 abbrev pub EarlierRefuses : Type 0
 EarlierRefuses = (p : Bool) (l : Lent) (h : State) → Within (written p) h → earlier_into l (page_text (written p) h) ≡ record { lent = l; answer = refused 17 }
 

@@ -1,6 +1,6 @@
 // Pages of every form, and the earlier reader.
 
-ghost use Rattle.theorems.specs.PageForms.{EveryFormRead, EarlierRewritten, EarlierStillRead, EarlierReads, EarlierTakes, EarlierRefuses, FormTold, FormsTold};
+ghost use Rattle.theorems.specs.PageForms.{EveryFormRead, EarlierRewritten, EarlierStillRead, EarlierReads, EarlierTakes, EarlierRefusesOthers, EarlierRefuses, FormTold, FormsTold};
 
 // A page of any form is read to the heap that it brings.
 pub fn every_form_is_read()
@@ -27,7 +27,12 @@ pub fn earlier_reader_takes_its_pages()
     ensures { EarlierTakes }
 {}
 
-// The earlier reader answers 17 to every page that is written, and leaves lent memory as it was.
+// The earlier reader answers 17 to every page of another form, and leaves lent memory as it was.
+pub fn earlier_reader_refuses_others()
+    ensures { EarlierRefusesOthers }
+{}
+
+// And so to every page that is written.
 pub fn earlier_reader_refuses()
     ensures { EarlierRefuses }
 {}
