@@ -1,6 +1,6 @@
 -- The laws of a heap in lent memory. Assumes nothing.
-use mathlib.Core.Path.{◌≡◌, sym, ap, ◌∙◌, subst}
-use mathlib.Core.Bool.{true, ◌&&◌}
+use mathlib.Core.Path.{sym, ap, ◌∙◌}
+use mathlib.Core.Bool.{◌&&◌}
 use Rattle.word.specs.Same.{same_list}
 use Rattle.word.proofs.Bools.{and_both, both-and}
 use Rattle.word.proofs.ListLaws.{same-tested, same_test}

@@ -9,7 +9,8 @@ use Rattle.roots.specs.Calls.{registers_at}
 abbrev pub BlocksApart : Function → Type 0
 BlocksApart f = (a b p : ℕ) → start f a ≤ p → p < end f a → start f b ≤ p → p < end f b → a ≡ b
 
--- the fixpoint, and the walk back from a block's end: a register is live before an instruction by them exactly if some walk from there reads it before writing
+-- the fixpoint, and the walk back from a block's end: a register is live before an instruction
+-- by them exactly if some walk from there reads it before writing
 abbrev pub DataflowLive : Type 0
 DataflowLive =
     (f : Function) → BlocksApart f → (block p register : ℕ) → start f block ≤ p → p < end f block

@@ -16,7 +16,8 @@ PlanesUndone =
 
 -- no two data have one column
 abbrev pub PlanesOfOne : Type 0
-PlanesOfOne = (width : ℕ) (s t : List ℕ) → Bytes s → Bytes t → planes width s ≡ planes width t → s ≡ t
+PlanesOfOne =
+    (width : ℕ) (s t : List ℕ) → Bytes s → Bytes t → planes width s ≡ planes width t → s ≡ t
 
 -- byte j of word i's difference stands at place i of plane j
 abbrev pub PlanesPlace : Type 0

@@ -18,7 +18,8 @@ pub record SlotsBelow (G : Graph) (n : ℕ) : Type 0 where
 
 -- marking fails exactly where a reached object can't be traced
 abbrev pub MarkingFails : Type 0
-MarkingFails = (G : Graph) (S : Starts) (n : ℕ) → SlotsBelow G n → (marking G S n ≡ none) ↔ UntraceableFrom G S
+MarkingFails =
+    (G : Graph) (S : Starts) (n : ℕ) → SlotsBelow G n → (marking G S n ≡ none) ↔ UntraceableFrom G S
 
 -- and else marks with 1 exactly what is reached, and with 0 exactly what is not
 pub record MarksReached (G : Graph) (S : Starts) (marks : List ℕ) (o : ℕ) : Type 0 where
@@ -30,7 +31,8 @@ MarkingMarks =
     (G : Graph) (S : Starts) (n : ℕ) → SlotsBelow G n → (m : Marking) → marking G S n ≡ some m
     → (o : ℕ) → o < n → MarksReached G S m.marks o
 
--- a collection of h, whose objects are those of G, where chains start at S: what it answers and leaves
+-- a collection of h, whose objects are those of G, where chains start at S: what it answers and
+-- leaves
 pub record CollectsRightly (G : Graph) (S : Starts) (h : State) (r : Changed Unit) : Type 0 where
   -- 13 exactly where a reached object can't be traced, and then the heap is as it was
   pub untraceable : (r.answer ≡ refused 13) ↔ UntraceableFrom G S

@@ -1,4 +1,5 @@
--- A rehearsal on a heap against the plain machine of objects, and the sizes of what it prints and holds.
+-- A rehearsal on a heap against the plain machine of objects, and the sizes of what it prints
+-- and holds.
 use Rattle.std.specs.Prelude.{ℕ, ◌+◌, ◌^◌, ◌≤◌, ◌<◌, List, [], ◌∷◌, length, ◌≡◌}
 use Rattle.ty.specs.Types.{Table}
 use Rattle.rehearsal.specs.Lines.{Line}
@@ -12,11 +13,14 @@ pub record InRange (slots bytes : ℕ) : Type 0 where
   pub most : slots ≤ 16777216
   pub small : bytes ≤ 1073741824
 
--- whatever right way there is to tell what a collection keeps, a rehearsal's text is that of the plain machine
+-- whatever right way there is to tell what a collection keeps, a rehearsal's text is that of the
+-- plain machine
 abbrev pub PlainFigures : Type 0
 PlainFigures =
-    (T : Table) (tells : Tells) → Right T tells → (slots bytes : ℕ) → InRange slots bytes → (thresholds : List ℕ) (ls : List Line)
-    → figures_text (heaped T slots bytes) fresh thresholds ls ≡ figures_text (plain T tells slots bytes) empty thresholds ls
+    (T : Table) (tells : Tells) → Right T tells → (slots bytes : ℕ) → InRange slots bytes
+    → (thresholds : List ℕ) (ls : List Line)
+    → figures_text (heaped T slots bytes) fresh thresholds ls
+    ≡ figures_text (plain T tells slots bytes) empty thresholds ls
 
 -- there is such a way
 abbrev pub SomeWayIsRight : Type 0
@@ -25,7 +29,8 @@ SomeWayIsRight = (T : Table) → (tells : Tells) × Right T tells
 -- a line of figures has at most 67 bytes
 abbrev pub FiguresShort : Type 0
 FiguresShort =
-    (T : Table) (slots bytes : ℕ) → InRange slots bytes → (threshold : ℕ) (ls : List Line) → threshold < 2 ^ 64 → length ls < 2 ^ 64
+    (T : Table) (slots bytes : ℕ) → InRange slots bytes → (threshold : ℕ) (ls : List Line)
+    → threshold < 2 ^ 64 → length ls < 2 ^ 64
     → length (figures_line (rehearsed (heaped T slots bytes) fresh threshold ls)) ≤ 67
 
 -- what is held after some lines
@@ -46,4 +51,6 @@ TurnsRise low (x ∷ xs) = (low ≤ x.turn) × TurnsRise (x.turn + 1) xs
 
 -- and they rise by turn
 abbrev pub HeldRise : Type 0
-HeldRise = (T : Table) (slots bytes threshold : ℕ) (ls : List Line) → TurnsRise 1 (held_after T slots bytes threshold ls)
+HeldRise =
+    (T : Table) (slots bytes threshold : ℕ) (ls : List Line)
+    → TurnsRise 1 (held_after T slots bytes threshold ls)

@@ -40,7 +40,8 @@ DescriptorSizeExact =
 -- any layout but malformed is the same with more levels
 abbrev pub LayoutWithMoreLevels : Type 0
 LayoutWithMoreLevels =
-    (T : Table) (m n t : ℕ) (descriptor : List ℕ) → m ≤ n → (layout_at T m t descriptor ≡ Err Malformed → ⊥)
+    (T : Table) (m n t : ℕ) (descriptor : List ℕ) → m ≤ n
+    → (layout_at T m t descriptor ≡ Err Malformed → ⊥)
     → layout_at T n t descriptor ≡ layout_at T m t descriptor
 
 -- constants of less than 2^64 bytes, as lent ones are
@@ -50,5 +51,6 @@ ShortConstants T = (c : ℕ) (bytes : List ℕ) → const_at T.consts c ≡ plai
 -- handle places are the same with more levels than 65
 abbrev pub PlacesWithMoreLevels : Type 0
 PlacesWithMoreLevels =
-    (T : Table) (end n t : ℕ) (descriptor : List ℕ) (at : ℕ) → ShortConstants T → length descriptor < 2 ^ 64 → 65 ≤ n
+    (T : Table) (end n t : ℕ) (descriptor : List ℕ) (at : ℕ) → ShortConstants T
+    → length descriptor < 2 ^ 64 → 65 ≤ n
     → places_at T end n t descriptor at ≡ places_at T end 65 t descriptor at

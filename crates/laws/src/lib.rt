@@ -1,5 +1,6 @@
-// The laws of the definitions: each is what one function promises, which has no parameters and does nothing. A module a subject; the statements are those of
-// specs/, the proofs those of the crates below.
+// The laws of the definitions: each is what one function promises, which has no parameters and
+// does nothing. A module a subject. The statements stand in specs/, the proofs rest on those of
+// the crates below.
 #![tactic(auto)]
 
 pub mod byte_planes;

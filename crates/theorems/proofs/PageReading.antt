@@ -68,7 +68,8 @@ moved-unlogged : (b : Bool) (h : State) → moved b (unlogged h) ≡ unlogged (m
 moved-unlogged true h = refl
 moved-unlogged false h = refl
 
--- a page, in any form, of which the heap that it brings is sound, is read into lent memory with room
+-- a page, in any form, of which the heap that it brings is sound, is read into lent memory with
+-- room
 pub read-in : (f : Form) (h : State) (l : Lent) → Within f h → sound (brought (f, h)) ≡ true → Room (brought (f, h)) l → read_into l (page_text f h) ≡ left l f (ok (unlogged (brought (f, h))))
 unfolding read_into
 read-in f h l w s r =
@@ -85,7 +86,8 @@ read-in f h l w s r =
 
 -- ACCEPTED
 
--- a text that was taken is a page that brings a sound heap that has room, and this heap lies in lent memory afterwards
+-- a text that was taken is a page that brings a sound heap that has room, and this heap lies in
+-- lent memory afterwards
 pub record Taken (l : Lent) (text : List ℕ) (h : State) : Type 0 where
   pub form : Form
   pub said : State
@@ -128,7 +130,8 @@ module _ {l : Lent} {text marks work : List ℕ} {r : Answer} {l' : Lent} {marks
   unfolding reading
   reads-few e = rw e at (ap (λ (o : Outcome). o.answer) c.told)
 
--- a page, in any form, of which the heap that it brings is sound, is taken in by any lent memory with room and scratch
+-- a page, in any form, of which the heap that it brings is sound, is taken in by any lent memory
+-- with room and scratch
 pub page-taken : {f : Form} {h : State} {m m' : Lent} {marks work marks' work' : List ℕ} {r : Answer} → Within f h → sound (brought (f, h)) ≡ true → Room (brought (f, h)) m → Scratch m marks work →
     Reads m (page_text f h) marks work r m' marks' work' → TookIn f (brought (f, h)) m r m'
 page-taken {f} {h} {m} {m'} {marks} {work} {r = r} w s v q c =

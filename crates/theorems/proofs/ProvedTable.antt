@@ -1,4 +1,5 @@
--- The proved table of 01 holds of the definitions, by computation: one statement over the table. Assumes nothing.
+-- The proved table holds of the definitions, by computation: one statement over the table.
+-- Assumes nothing.
 use mathlib.Core.Path.{refl}
 use Rattle.word.specs.Lists.{all}
 use Rattle.word.specs.Same.{same_list}

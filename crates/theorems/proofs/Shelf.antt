@@ -1,4 +1,5 @@
--- THE LAST LINE of a shelf, ANY ORDER of its pages, TWO SHELVES together, and what A RUN prints. Assumes nothing.
+-- THE LAST LINE of a shelf, ANY ORDER of its pages, TWO SHELVES together, and what A RUN prints.
+-- Assumes nothing.
 use Prim.Native.Nat.{ℕ, zero, suc, ◌+◌, ◌-◌, ◌^◌, ◌≤◌, ◌<◌, max}
 use mathlib.Core.Bool.{Bool, true, false}
 use mathlib.Core.List.{List, [], ◌∷◌, ◌++◌, append_assoc, append-nil, map, map-append, foldl}

@@ -1,6 +1,7 @@
--- Two joined collections on small memory, worked out by the definitions: one that ends with 13, and one that keeps an object and drops another.
+-- Two joined collections on small memory, worked out by the definitions: one that ends with 13,
+-- and one that keeps an object and drops another.
 -- So what is said of a collection that can't trace, and of one that drops, is said of something.
-use Rattle.std.specs.Prelude.{ℕ, Bool, true, false, List, [], ◌∷◌, replicate, ◌≡◌}
+use Rattle.std.specs.Prelude.{ℕ, false, List, [], ◌∷◌, replicate, ◌≡◌}
 use Rattle.refusal.specs.declared.Refusal.TheVariants.{Untraceable}
 use Rattle.handle.specs.Handle.{packed}
 use Rattle.heap.specs.State.{Slot, State, slot_at, live}
@@ -30,7 +31,8 @@ heap_of slots =
 
 -- an object of type 0 with two bytes
 abbrev pub short_object : Slot
-short_object = record { generation = 1; kind = 1; type = 0; start = 0; writes = 0; bytes = 65 ∷ 66 ∷ [] }
+short_object =
+    record { generation = 1; kind = 1; type = 0; start = 0; writes = 0; bytes = 65 ∷ 66 ∷ [] }
 
 -- type 0 is a handle, which takes eight bytes; one safepoint and no register; slot 0 is pinned
 abbrev pub pinned_short : Asked
@@ -67,7 +69,8 @@ CollectionEndsUntraceable =
 abbrev pub bytes_object : ℕ → Slot
 bytes_object b = record { generation = 1; kind = 2; type = 0; start = 0; writes = 0; bytes = b ∷ [] }
 
--- a safepoint, then an instruction that reads register 0, which is of class 4 and has the handle of slot 0
+-- a safepoint, then an instruction that reads register 0, which is of class 4 and has the handle
+-- of slot 0
 abbrev pub first_in_register : Asked
 first_in_register =
     record {
@@ -88,9 +91,11 @@ abbrev pub two_objects : List Slot
 two_objects = bytes_object 65 ∷ bytes_object 66 ∷ []
 
 abbrev pub two_collected : Outcome
-two_collected = joined_call first_in_register (0 ∷ 0 ∷ []) (0 ∷ 0 ∷ []) (replicate 5 0) (stored 2 2 (heap_of two_objects))
+two_collected =
+    joined_call first_in_register (0 ∷ 0 ∷ []) (0 ∷ 0 ∷ []) (replicate 5 0) (stored 2 2 (heap_of two_objects))
 
 -- it is done, slot 0 is as it was, and slot 1 is live no more
 abbrev pub CollectionKeepsAndDrops : Type 0
 CollectionKeepsAndDrops =
-    (two_collected.answer ≡ done) × (slot_at (view two_collected.heap) 0 ≡ bytes_object 65) × (live (slot_at (view two_collected.heap) 1) ≡ false)
+    (two_collected.answer ≡ done) × (slot_at (view two_collected.heap) 0 ≡ bytes_object 65)
+    × (live (slot_at (view two_collected.heap) 1) ≡ false)

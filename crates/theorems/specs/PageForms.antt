@@ -1,5 +1,7 @@
--- Pages of every form: each is read to the heap that it brings, and that heap is written with planes or data, as the
--- host says; which form was met is told; the earlier reader takes pages of its own form and no others.
+-- Pages of every form: each is read to the heap that it brings, and that heap is written with
+-- planes or data, as the
+-- host says; which form was met is told; the earlier reader takes pages of its own form and no
+-- others.
 use Rattle.std.specs.Prelude.{ℕ, Bool, true, List, ◌↔◌, ◌≡◌}
 use Rattle.std.proofs.Math.Option.{some}
 use Rattle.word.specs.Result.{ok, refused}
@@ -15,7 +17,8 @@ use Rattle.theorems.specs.PageHeapPage.{TextRead}
 use Rattle.theorems.specs.EarlierPage.{earlier_read, earlier_into}
 use Rattle.pages.specs.Reading.{read_page}
 
--- a page, in whatever form, of which the heap that it brings is sound, is taken in as that heap by lent memory with room: every number is carried over unchanged, and where the form
+-- a page, in whatever form, of which the heap that it brings is sound, is taken in as that heap
+-- by lent memory with room: every number is carried over unchanged, and where the form
 -- has no retired list the worn-out free slots are moved to it, in free order
 abbrev pub EveryFormRead : Type 0
 EveryFormRead =
@@ -26,7 +29,8 @@ EveryFormRead =
 abbrev pub EarlierStillRead : Type 0
 EarlierStillRead = (text : List ℕ) (h : State) → (earlier_read text ≡ some h) ↔ (read_page text ≡ some (earlier, h))
 
--- what the earlier reader reads a text as is the heap whose page in the earlier form the text is, and it reads every such page
+-- what the earlier reader reads a text as is the heap whose page in the earlier form the text
+-- is, and it reads every such page
 abbrev pub EarlierReads : Type 0
 EarlierReads = (text : List ℕ) (h : State) → (earlier_read text ≡ some h) ↔ ((page_text earlier h ≡ text) × Within earlier h × Unsaved h)
 
@@ -44,7 +48,8 @@ EarlierRefusesOthers =
 abbrev pub EarlierRefuses : Type 0
 EarlierRefuses = (p : Bool) (l : Lent) (h : State) → Within (written p) h → earlier_into l (page_text (written p) h) ≡ record { lent = l; answer = refused 17 }
 
--- a page of whatever form was read: the text is the page, in its form, of what it says; the heap that was left is the one that this brings; and what is written of it is its page in the
+-- a page of whatever form was read: the text is the page, in its form, of what it says; the heap
+-- that was left is the one that this brings; and what is written of it is its page in the
 -- form that is written
 pub record Rewritten (p : Bool) (text : List ℕ) (l' : Lent) (out : List ℕ) (r : Answer) (out' : List ℕ) : Type 0 where
   pub was : page_text (form_in text) (heap_in text) ≡ text

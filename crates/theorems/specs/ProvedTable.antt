@@ -1,4 +1,5 @@
--- The proved table of 01, cases (a), (b) and (d) to (k) (request [7] took (c) out), and the depths at which nesting ends: what each definition gives, and what it should give, as numbers.
+-- The proved table, cases (a), (b) and (d) to (k) of docs/SCOPE.md, and the depths at which
+-- nesting ends: what each definition gives, and what it should give, as numbers.
 use Rattle.std.specs.Prelude.{ℕ, Bool, true, List, [], ◌∷◌, length, replicate, ◌≡◌}
 use Rattle.std.proofs.Math.Option.{Option, none, some}
 use Rattle.word.specs.Lists.{all}

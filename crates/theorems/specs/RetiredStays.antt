@@ -1,4 +1,5 @@
--- Request [7]: a retired slot never leaves. Whatever call is made, done or refused, the retired list afterwards is the one before, with what has joined it at its end.
+-- A retired slot never leaves. Whatever call is made, done or refused, the retired list
+-- afterwards is the one before, with what has joined it at its end.
 use Rattle.std.specs.Prelude.{◌≡◌, List, ◌++◌, ℕ}
 use Rattle.std.proofs.Math.Option.{Option}
 use Rattle.heap.specs.State.{State}

@@ -1,5 +1,6 @@
-// The theorems on the public calls: each is what one function promises, which has no parameters and does nothing. A module a subject; the statements are those of
-// specs/, or of the crate that a statement is about, and the proofs stand likewise.
+// The theorems on the public calls: each is what one function promises, which has no parameters
+// and does nothing. A module a subject. The statements stand in specs/, or in the crate that a
+// statement is about.
 #![tactic(auto)]
 
 pub mod collecting;
@@ -22,7 +23,8 @@ pub use widths::words;
 
 fn nothing() {}
 
-// Does nothing. Its contract says what the theorem on a table's text asks for of lent lists, and that whoever lends them has it.
+// Does nothing. Its contract says what the theorem on a table's text asks for of lent lists, and
+// that whoever lends them has it.
 pub fn table_words(types: &[u64], fields: &[u32], consts: &[u64], bytes: &[u8], names: &[u8])
     ensures { TableWords (lists types.now fields.now consts.now bytes.now names.now) }
 {
