@@ -15,9 +15,10 @@ stands in a file of the tables or in that of a statement, and no other in specs/
 specs/ names a definition of proofs/.
 
 Theorems: each row has statements and functions, each with its file. A function is public, as the modules that it
-stands in are, and has no `requires`. A public call has an `ensures` that is the statement applied to what the call is
-given and leaves, with no premise. Any other function has no parameters and an empty body, and one `ensures`, which is
-the statement alone. Each statement of a row is promised by a function of that row, and each function promises one.
+stands in are, and has no `requires`. A public call, or a function that makes some, has an `ensures` that is the
+statement applied to what the call is given and leaves, with no premise. Any other function has no parameters and an
+empty body, and one `ensures`, which is the statement alone. Each statement of a row is promised by a function of that
+row, and each function promises one. "The contracts of" a file stand for themselves, beside "each function of" it.
 A function of a crate of theorems that no row names is told.
 
 What contracts compute with: each row names functions of the table of theorems. Each believed definition that names
@@ -35,6 +36,8 @@ RESTING = "Believed definitions that rest on computed ones"
 THEOREMS = "Theorems"
 # crates of which each public function with no parameters is a theorem
 THEOREM_CRATES = ("theorems", "laws", "histories")
+# crates of functions that make public calls, and whose contracts are theorems on these
+CALLING_CRATES = ("theorem_calls",)
 IMPORTS = ("use ", "pub use ", "pub mod ", "mod ")
 TOKEN = re.compile(r"[^\s(){}\[\],;]+")
 
@@ -245,28 +248,27 @@ class Book:
         return all(re.search(rf"^pub mod {m};", above, re.M) for m in modules)
 
     def promise(self, name, path, stated, wrong):
-        """The statement of `stated` that a function promises, or None with what is wrong."""
+        """The statements of `stated` that a function promises; what is wrong with it is told."""
         f = self.functions.get(name)
         if not f or f.path != path:
             wrong.append(f"no function {name} in {path}")
-            return None
-        called = name.split("::")[-1].startswith("yexwalu_")
+            return set()
+        called = name.split("::")[-1].startswith("yexwalu_") or name.split("::")[0] in CALLING_CRATES
+        kept = set()
         for clause in f.ensures:
             head = self.find(*f.scope.get(clause.split()[0], ("", ""))) if clause else None
             alone = clause.split()[1:] == f.types
             if head in stated and (applied(clause) if called else alone):
-                break
-        else:
-            wrong.append(f"{name} promises no statement of its row, or not it alone")
-            return None
+                kept.add(head)
         faults = [
+            (not kept, "promises no statement of its row, or not it alone"),
             (not f.public or not self.is_open(name), "is not public"),
             (f.requires, "has a `requires`"),
             (not called and (f.params or not f.empty), "has parameters or a body"),
             (not called and len(f.ensures) != 1, "has other clauses"),
         ]
         wrong += [f"{name} {what}" for is_so, what in faults if is_so]
-        return head
+        return kept
 
 
 def applied(clause):
@@ -286,11 +288,12 @@ def theorem_row(book, cells, promised, wrong):
     for part in cells[2].split(";"):
         path = re.search(r"crates/\S+?\.rt", part)
         names = re.findall(r"`(\w+(?:::\w+)+)`", part)
-        if not path or not (names or part.strip().startswith("each function of")):
+        each = part.strip().startswith("each function of")
+        if not path or not (names or each and f"the contracts of {path[0]}" in cells[1]):
             wrong.append(f"a theorem without a function and its file: {cells[0]}")
         for name in names if path else []:
             promised.add(name)
-            kept.add(book.promise(name, path[0], named, wrong))
+            kept |= book.promise(name, path[0], named, wrong)
     wrong += [f"no function of its row promises {n[2]}: {cells[0]}" for n in sorted(named - kept)]
     return named | besides
 
