@@ -11,16 +11,16 @@ use Rattle.rehearsal.proofs.Holding.{held-few, Between, rises-after}
 use Rattle.laws.specs.Rehearsals.{PlainFigures, SomeWayIsRight, FiguresShort, held_after, FewHeld, TurnsRise, HeldRise}
 
 pub plain-figures : PlainFigures
-plain-figures T way right S P sizes = text-theorem T way right S P sizes.some sizes.most sizes.small
+plain-figures T way right S P sizes = text-theorem T way right S P sizes.one_slot sizes.few_slots sizes.small_pool
 
 pub some-way-is-right : SomeWayIsRight
 some-way-is-right T = (tells T, tells-right T)
 
 pub figures-are-short : FiguresShort
-figures-are-short T S P sizes n ls word many = figures-short T S P sizes.some sizes.most sizes.small n ls word many
+figures-are-short T S P sizes n ls word many = figures-short T S P sizes.one_slot sizes.few_slots sizes.small_pool n ls word many
 
 pub few-are-held : FewHeld
-few-are-held T S P sizes n ls = held-few T S P sizes.some sizes.most sizes.small n ls
+few-are-held T S P sizes n ls = held-few T S P sizes.one_slot sizes.few_slots sizes.small_pool n ls
 
 turns-rise : (low high : ℕ) (xs : List Held) → Between low high xs → TurnsRise low xs
 unfolding TurnsRise

@@ -8,7 +8,7 @@ use Rattle.alike.specs.Order.{met, encoding, order, Before, heap_order}
 
 -- two models of n and of m slots, of one type table, of which all that the roots reach can be
 -- traced
-pub record Comparable (G H : Model) (rs ss : List ℕ) (n m : ℕ) : Type 0 where
+pub record ComparableModels (G H : Model) (rs ss : List ℕ) (n m : ℕ) : Type 0 where
   pub slots : Slots G n
   pub slots' : Slots H m
   pub traceable : Traceable G rs
@@ -20,19 +20,19 @@ pub record Comparable (G H : Model) (rs ss : List ℕ) (n m : ℕ) : Type 0 wher
 -- their encodings are equal exactly if a pairing exists
 abbrev pub EncodedSameExactly : Type 0
 EncodedSameExactly =
-    (G H : Model) (rs ss : List ℕ) (n m : ℕ) → Comparable G H rs ss n m
+    (G H : Model) (rs ss : List ℕ) (n m : ℕ) → ComparableModels G H rs ss n m
     → (encoding G rs n ≡ encoding H ss m) ↔ Same G H rs ss
 
 -- a relation by the pairs that it has: each p of them relates `first p` to `second p`. Every
 -- relation is such a one
-abbrev pub Related : (Pair : Type 0) → (first second : Pair → ℕ) → ℕ → ℕ → Type 0
-Related Pair first second a b = (p : Pair) × (first p ≡ a) × (second p ≡ b)
+abbrev pub RelatedBy : (Pair : Type 0) → (first second : Pair → ℕ) → ℕ → ℕ → Type 0
+RelatedBy Pair first second a b = (p : Pair) × (first p ≡ a) × (second p ≡ b)
 
 -- a pairing by any relation is enough
 abbrev pub AnyPairingSame : (Pair : Type 0) → Type 0
 AnyPairingSame Pair =
-    (G H : Model) (rs ss : List ℕ) (n m : ℕ) → Comparable G H rs ss n m
-    → (first second : Pair → ℕ) → Pairing G H rs ss (Related Pair first second) → Same G H rs ss
+    (G H : Model) (rs ss : List ℕ) (n m : ℕ) → ComparableModels G H rs ss n m
+    → (first second : Pair → ℕ) → Pairing G H rs ss (RelatedBy Pair first second) → Same G H rs ss
 
 -- the met are the reached
 abbrev pub MetIsReached : Type 0

@@ -9,9 +9,9 @@ use Rattle.rehearsal.specs.OnHeap.{heaped, fresh}
 
 -- sizes of lent memory that are in range
 pub record InRange (slots bytes : ℕ) : Type 0 where
-  pub some : 1 ≤ slots
-  pub most : slots ≤ 16777216
-  pub small : bytes ≤ 1073741824
+  pub one_slot : 1 ≤ slots
+  pub few_slots : slots ≤ 16777216
+  pub small_pool : bytes ≤ 1073741824
 
 -- whatever right way there is to tell what a collection keeps, a rehearsal's text is that of the
 -- plain machine

@@ -1,7 +1,7 @@
 -- Type tables: ranks of signed numbers, sizes of descriptors in 64 bits, and how deep types nest.
 use Rattle.std.specs.Prelude.{ℕ, ◌+◌, ◌^◌, ◌<◌, ◌≤◌, true, List, length, Option, Some, None, Err, ◌≡◌, ◌↔◌}
 use Rattle.refusal.specs.declared.Refusal.TheVariants.{Malformed}
-use Rattle.ty.specs.Types.{Ty, Table, Const.plain, const_at}
+use Rattle.ty.specs.Types.{Ty, Table}
 use Rattle.ty.specs.Words.{Word, word_of, above, below, rank_at}
 use Rattle.ty.specs.Walks.{desc_bytes}
 use Rattle.ty.specs.DescSize.{desc_size}
@@ -9,6 +9,7 @@ use Rattle.ty.specs.View.{types_of}
 use Rattle.ty.specs.Check.{table_good}
 use Rattle.layout.specs.Layout.{layout_at}
 use Rattle.trace.specs.Places.{places_at}
+use Rattle.places.specs.StrideZero.{ShortConstants}
 
 -- ranks of words of w bits have the order of the signed numbers: each is `above` less `below`
 abbrev pub RankOrder : Type 0
@@ -44,11 +45,8 @@ LayoutWithMoreLevels =
     → (layout_at T m t descriptor ≡ Err Malformed → ⊥)
     → layout_at T n t descriptor ≡ layout_at T m t descriptor
 
--- constants of less than 2^64 bytes, as lent ones are
-abbrev pub ShortConstants : Table → Type 0
-ShortConstants T = (c : ℕ) (bytes : List ℕ) → const_at T.consts c ≡ plain bytes → length bytes < 2 ^ 64
-
--- handle places are the same with more levels than 65
+-- handle places are the same with more levels than 65, where constants have less than 2^64 bytes,
+-- as lent ones have
 abbrev pub PlacesWithMoreLevels : Type 0
 PlacesWithMoreLevels =
     (T : Table) (end n t : ℕ) (descriptor : List ℕ) (at : ℕ) → ShortConstants T
