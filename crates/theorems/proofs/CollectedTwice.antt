@@ -19,7 +19,7 @@ use Rattle.heap.proofs.Testing.{formed-tested}
 use Rattle.heap.proofs.Storing.{view-stored}
 use Rattle.code.specs.Lent.{function, need}
 use Rattle.collection.proofs.Twice.{joined-twice}
-use Rattle.door.specs.HeapCalls.{admitted, enough, zeros, Outcome, outcome_of, calling}
+use Rattle.door.specs.HeapCalls.{admitted, enough, zeros, Outcome, outcome_of}
 use Rattle.door.specs.HeapCalls.{ready}
 use Rattle.door.proofs.Entering.{all_hold, calling-ready}
 use Rattle.collect_door.specs.Calls.{Asked, table, frame, pinning, roomy, joined_tests, joining}

@@ -1,4 +1,4 @@
--- The theorems: HeapPageHeap, PageHeapPage, PageBound, PageLength, PageForms; the others are their lemmas.
+-- The theorems, a file a subject; PageReading and PageWriting are lemmas of those on pages.
 pub mod PageReading
 pub mod PageWriting
 pub mod HeapPageHeap
@@ -8,8 +8,10 @@ pub mod PageLength
 pub mod PageForms
 pub mod ProvedTable
 pub mod TestsPass
+pub mod CollectionCases
 pub mod CollectedTwice
 pub mod RetiredStays
 pub mod Shelf
 pub mod RootsCollected
 pub mod TableText
+pub mod Heaps

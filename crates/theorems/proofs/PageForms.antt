@@ -14,12 +14,16 @@ use Rattle.text.specs.Format.{number, always, after_literal, pair, times}
 use Rattle.text.specs.Inner.Right.{Right}
 use Rattle.text.proofs.Laws.{bind-some, some_inj, always-right, after-literal-right, pair-right, times-right}
 use Rattle.heap.specs.State.{State}
+use Rattle.heap.specs.Lent.{slot_count, pool_size}
+use Rattle.word.specs.Result.{ok}
+use Rattle.page_reader.specs.Reading.{left, in_range}
 use Rattle.pages.specs.Form.{Form, form_of, writes_width, written, earlier, heap_front, no_retired, heap_names, slot_front, narrow_writes, data_name, slot_names, free_name, quarantine_name, sealed_name}
 use Rattle.pages.specs.Page.{slot_line, value_line, retired_part, page_text, Within, Unsaved}
 use Rattle.pages.specs.Reading.{slot_format, Head, Body, state_of, head_of, body_of, whole, read_page}
 use Rattle.pages.proofs.Laws.{Head-good, Body-good, head-right, slot-right, last, head-prints, slot-prints, value-prints, flat_map-same, good-saved, within-read, whole-some, same-unsaved, read-written, written_read, read-exactly}
 use Rattle.theorems.specs.EarlierPage.{earlier_heap_names, earlier_slot_names, earlier_body, earlier_format, earlier_read, earlier_verdict, earlier_into}
-use Rattle.theorems.specs.PageForms.{EveryFormRead, EarlierStillRead, EarlierRefuses, EarlierRewritten, FormTold, FormsTold}
+use Rattle.theorems.specs.PageForms.{EveryFormRead, EarlierStillRead, EarlierReads, EarlierTakes, EarlierRefusesOthers, EarlierRefuses, EarlierRewritten, FormTold, FormsTold}
+use Rattle.word.proofs.ResultLaws.{not-refused}
 use Rattle.theorems.proofs.PageReading.{page-taken}
 use Rattle.theorems.proofs.PageHeapPage.{kept, writes-text}
 
@@ -100,18 +104,33 @@ again t h e =
 pub earlier-still-read : EarlierStillRead
 earlier-still-read t h = (still t h, again t h)
 
-not-read : (p : Bool) (h : State) → Within (written p) h → earlier_read (page_text (written p) h) ≡ none
-not-read p h w = go (earlier_read (page_text (written p) h)) refl
+pub earlier-reads : EarlierReads
+earlier-reads t h = (λ e. (read-exactly t earlier h).0 (still t h e), λ p. again t h ((read-exactly t earlier h).1 p))
+
+pub earlier-takes : EarlierTakes
+unfolding earlier_into earlier_verdict
+earlier-takes l text f e = go (earlier_read text) refl e
   where
-    go : (o : Option State) → earlier_read (page_text (written p) h) ≡ o → o ≡ none
+    go : (o : Option State) → earlier_read text ≡ o → (left l earlier (earlier_verdict (in_range l) (slot_count l) (pool_size l) o)).answer ≡ ok f
+        → (h : State) × (page_text earlier h ≡ text) × Within earlier h
+    go none q z = not-refused z
+    go (some h) q z = let r = (earlier-reads text h).0 q in (h, r.0, r.1)
+
+not-read : (f : Form) (h : State) → (f ≡ earlier → ⊥) → Within f h → earlier_read (page_text f h) ≡ none
+not-read f h other w = go (earlier_read (page_text f h)) refl
+  where
+    go : (o : Option State) → earlier_read (page_text f h) ≡ o → o ≡ none
     go none e = refl
     go (some g) e =
-        let v : ◌≡◌ {A = Form × State} (written p, state_of (head_of h) (body_of h)) (earlier, g) = some_inj (sym (read-written (written p) h w) ∙ still (page_text (written p) h) g e) in
-        absurd (true-false (ap (λ (x : Form × State). x.0.wide) v))
+        let v : ◌≡◌ {A = Form × State} (f, state_of (head_of h) (body_of h)) (earlier, g) = some_inj (sym (read-written f h w) ∙ still (page_text f h) g e) in
+        absurd (other (ap (λ (x : Form × State). x.0) v))
+
+pub earlier-refuses-others : EarlierRefusesOthers
+unfolding earlier_into earlier_verdict
+earlier-refuses-others f l h other w = rw (not-read f h other w)
 
 pub earlier-refuses : EarlierRefuses
-unfolding earlier_into earlier_verdict
-earlier-refuses p l h w = rw (not-read p h w)
+earlier-refuses p l h w = earlier-refuses-others (written p) l h (λ e. true-false (ap (λ (f : Form). f.wide) e)) w
 
 -- ---- written again in the form that is written
 

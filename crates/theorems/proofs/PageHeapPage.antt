@@ -26,7 +26,8 @@ use Rattle.theorems.proofs.PageReading.{taken, room-formed, reads-enough, reads-
 use Rattle.theorems.proofs.PageWriting.{writes-page, writes-none, put-start}
 
 module _ (text : List ℕ) (l' : Lent) (t : TextRead text l') where
-  -- a text that was read is the page of what it says, in the form that it has, and the heap that was left is the one that this brings
+  -- a text that was read is the page of what it says, in the form that it has, and the heap
+  -- that was left is the one that this brings
   pub record Kept : Type 0 where
     pub formed : well_formed l' ≡ true
     pub page : page_text (form_in text) (heap_in text) ≡ text

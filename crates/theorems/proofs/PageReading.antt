@@ -5,7 +5,6 @@ use Rattle.word.proofs.Bools.{and_both}
 use Rattle.refusal.specs.Told.{refused_by, answered}
 use Rattle.refusal.specs.declared.Answer.{Answer}
 use Rattle.heap.specs.State.{State, data_size}
-use Rattle.heap.specs.Packing.{pad}
 use Rattle.heap.specs.Lent.{Lent, stored, view, slot_count, pool_size}
 use Rattle.heap.specs.WellFormed.{partitioned, retired_rightly, sound, fits, well_formed}
 use Rattle.heap.proofs.Sound.{WellFormed}
@@ -25,14 +24,14 @@ use Rattle.page_reader.proofs.Loaded.{passed, few-numbers}
 use Rattle.door.specs.HeapCalls.{Outcome, enough}
 use Rattle.door.proofs.Entering.{is-enough}
 use Rattle.page_door.specs.Page.{reading}
-use Rattle.theorems.specs.PageCalls.{Reads, unlogged, done, Scratch, Room, SameSizes, TookIn}
+use Rattle.theorems.specs.PageCalls.{Reads, unlogged, Scratch, Room, SameSizes, TookIn}
 use Rattle.pages.specs.Reading.{read_page}
 use Rattle.word.proofs.ResultLaws.{not-refused}
 use mathlib.Core.Bool.{Bool, true, false, ◌&&◌}
 use mathlib.Core.List.{List}
 use mathlib.Core.Option.{some}
 use mathlib.Core.Path.{◌≡◌, refl, ap, ◌∙◌}
-use lib.Dec.{leb, eqb, ltb}
+use lib.Dec.{leb, eqb}
 use lib.ListN.{length}
 use native.Mathlib.Omega.{arith}
 use borrow.Author.Tests.{le-leb, le-ltb, eq-eqb}
@@ -69,7 +68,8 @@ moved-unlogged : (b : Bool) (h : State) → moved b (unlogged h) ≡ unlogged (m
 moved-unlogged true h = refl
 moved-unlogged false h = refl
 
--- a page, in any form, of which the heap that it brings is sound, is read into lent memory with room
+-- a page, in any form, of which the heap that it brings is sound, is read into lent memory with
+-- room
 pub read-in : (f : Form) (h : State) (l : Lent) → Within f h → sound (brought (f, h)) ≡ true → Room (brought (f, h)) l → read_into l (page_text f h) ≡ left l f (ok (unlogged (brought (f, h))))
 unfolding read_into
 read-in f h l w s r =
@@ -86,7 +86,8 @@ read-in f h l w s r =
 
 -- ACCEPTED
 
--- a text that was taken is a page that brings a sound heap that has room, and this heap lies in lent memory afterwards
+-- a text that was taken is a page that brings a sound heap that has room, and this heap lies in
+-- lent memory afterwards
 pub record Taken (l : Lent) (text : List ℕ) (h : State) : Type 0 where
   pub form : Form
   pub said : State
@@ -129,7 +130,8 @@ module _ {l : Lent} {text marks work : List ℕ} {r : Answer} {l' : Lent} {marks
   unfolding reading
   reads-few e = rw e at (ap (λ (o : Outcome). o.answer) c.told)
 
--- a page, in any form, of which the heap that it brings is sound, is taken in by any lent memory with room and scratch
+-- a page, in any form, of which the heap that it brings is sound, is taken in by any lent memory
+-- with room and scratch
 pub page-taken : {f : Form} {h : State} {m m' : Lent} {marks work marks' work' : List ℕ} {r : Answer} → Within f h → sound (brought (f, h)) ≡ true → Room (brought (f, h)) m → Scratch m marks work →
     Reads m (page_text f h) marks work r m' marks' work' → TookIn f (brought (f, h)) m r m'
 page-taken {f} {h} {m} {m'} {marks} {work} {r = r} w s v q c =

@@ -8,7 +8,6 @@ use lib.ListN.{length, drop}
 use native.Mathlib.Omega.{arith}
 use native.Mathlib.Nat.{zero-add}
 use borrow.Author.Tests.{le-leb, lt-leb, leb-true}
-use Rattle.word.specs.Result.{refused}
 use Rattle.word.proofs.PutLaws.{put_all}
 use Rattle.text.specs.Put.{put_text}
 use Rattle.refusal.specs.Told.{number_of, refused_by, answered, here, nothing}

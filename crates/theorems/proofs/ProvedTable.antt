@@ -1,6 +1,6 @@
--- The proved table of 01 holds of the definitions, by computation: one statement over the table. Assumes nothing.
-use mathlib.Core.Path.{◌≡◌, refl}
-use mathlib.Core.Bool.{true}
+-- The proved table holds of the definitions, by computation: one statement over the table.
+-- Assumes nothing.
+use mathlib.Core.Path.{refl}
 use Rattle.word.specs.Lists.{all}
 use Rattle.word.specs.Same.{same_list}
 use Rattle.word.specs.Num.{align_up}
@@ -13,8 +13,8 @@ use Rattle.layout.specs.Layout.{dim_len, dims_of, under, array_laid, array_of, p
 use Rattle.layout.specs.Offsets.{offsets_from, offsets_of}
 use Rattle.trace.specs.Places.{handles_places, kind_places, words_at, handles_of, eight_apart}
 use Rattle.theorems.specs.TableLayouts.{dim, sample, nested, answered, cases}
-use Rattle.theorems.specs.ProvedTable.{laid, handles_in, table, all_right}
+use Rattle.theorems.specs.ProvedTable.{laid, handles_in, table, all_right, ProvedTable}
 
-pub table-holds : all_right table ≡ true
+pub table-holds : ProvedTable
 unfolding all_right all same_list table laid handles_in packed resolve new resolve_by tag_of index_of generation_of handles_of kind_places handles_places eight_apart words_at le bytes cases dim sample nested answered layout_of layout_at layout_by array_of array_laid dims_of word_of dim_len rank align_up under elem_size scalar_size narrow logic_leaf leaf_by record_of end_of placed offsets_of offsets_from
 table-holds = refl

@@ -109,7 +109,7 @@ module _ (h : State) where
   unfolding joined
   joins T f pc values frame pins = by-frame T frame (values_of values (root_registers f pc)) (pins_at f pc values pins)
 
-pub retired-stays : (h : State) → RetiredStays h
+pub retired-stays : RetiredStays
 retired-stays h =
     record {
       allocating = allocs h;

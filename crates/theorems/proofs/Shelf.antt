@@ -1,7 +1,8 @@
--- THE LAST LINE of a shelf, ANY ORDER of its pages, TWO SHELVES together, and what A RUN prints. Assumes nothing.
+-- THE LAST LINE of a shelf, ANY ORDER of its pages, TWO SHELVES together, and what A RUN prints.
+-- Assumes nothing.
 use Prim.Native.Nat.{ℕ, zero, suc, ◌+◌, ◌-◌, ◌^◌, ◌≤◌, ◌<◌, max}
 use mathlib.Core.Bool.{Bool, true, false}
-use mathlib.Core.List.{List, [], ◌∷◌, ◌++◌, append_assoc, append-nil, map, map-append}
+use mathlib.Core.List.{List, [], ◌∷◌, ◌++◌, append_assoc, append-nil, map, map-append, foldl}
 use mathlib.Core.Path.{◌≡◌, refl, sym, ap, ◌∙◌, subst}
 use native.Mathlib.Omega.{arith}
 use lib.ListN.{length, take, drop, length-append, take-append-drop}
@@ -12,9 +13,10 @@ use Rattle.word.proofs.Bools.{by_size}
 use Rattle.text.specs.Text.{decimal, newline}
 use Rattle.text.proofs.Laws.{decimal-length}
 use Rattle.figures.specs.declared.Figures.{Figures}
-use Rattle.figures.specs.Figures.{merge, total, figures_line}
+use Rattle.figures.specs.Figures.{no_figures, merge, total, figures_line}
 use Rattle.figures.specs.Inner.Counting.{shown_as, line_of}
-use Rattle.figures.proofs.Totals.{none-merge, merge-assoc, merge-comm, total-append}
+use Rattle.figures.proofs.Totals.{figures-same, merge_none, none-merge, merge-assoc, merge-comm, total-append}
+use Rattle.held_figures.specs.Totals.{in_words}
 use Rattle.shelves.specs.declared.At.{At}
 use Rattle.shelves.specs.declared.At.TheVariants.{Over}
 use Rattle.shelves.specs.declared.Shelf.{Shelf}
@@ -22,7 +24,7 @@ use Rattle.shelves.specs.Shelf.{LengthLine, length_of, unfinished, no_length, le
 use Rattle.shelves.specs.Steps.{left_at, printed, text_left}
 use Rattle.shelves.proofs.Lengths.{line-forth, line-back}
 use Rattle.shelves.proofs.Taking.{bytes-there, bytes-short}
-use Rattle.theorems.specs.Shelf.{last_figures, Sums, LastLineSums, shelf_of, Measurable, IsShelf, NoneCutOff, Reordered, AnyOrder, Together, Run, ended, over, goes, RunPrints}
+use Rattle.theorems.specs.Shelf.{last_figures, Sums, LastLineSums, shelf_of, Measurable, IsShelf, NoneCutOff, Reordered, AnyOrder, AnyOrderOfInputs, Together, AddedInWords, Run, ended, over, goes, RunPrints}
 
 -- ---- the last line
 
@@ -133,6 +135,24 @@ any_order failed ps qs rest r h m =
     (total-shelf failed ps rest h m
     ∙ (λ j. merge (total-order ps qs r j) (total_of (pages_in (1000000 - n j) failed rest)))
     ∙ sym (total-shelf failed qs rest (omega arith) (measured-order ps qs r m)))
+
+pub any_order-of-inputs : AnyOrderOfInputs
+unfolding last_line answers_of
+any_order-of-inputs failed failed' input input' ps qs e e' r =
+    ap (figures_line 0 0) (ap total_of e ∙ total-order ps qs r ∙ sym (ap total_of e'))
+
+-- ---- added in words
+
+-- a sum that stopped goes no further
+stays : (t f g : Figures) → in_words (merge (in_words (merge t f)) g) ≡ in_words (merge t (merge f g))
+stays t f g = figures-same _ _ (omega arith) (omega arith) (omega arith)
+
+added : (t : Figures) (fs : List Figures) → in_words (foldl (λ (t f : Figures). in_words (merge t f)) t fs) ≡ in_words (merge t (total fs))
+added t [] = ap in_words (sym (merge_none t))
+added t (f ∷ fs) = added (in_words (merge t f)) fs ∙ stays t f (total fs)
+
+pub added-in-words : AddedInWords
+added-in-words fs = added no_figures fs ∙ ap in_words (none-merge (total fs))
 
 -- ---- shelves together
 

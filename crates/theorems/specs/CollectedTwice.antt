@@ -1,4 +1,5 @@
--- Collecting twice: a joined collection that succeeded, repeated at once with the same types, function, safepoint, registers, frame and pins and with scratch no shorter,
+-- Collecting twice: a joined collection that succeeded, repeated at once with the same types,
+-- function, safepoint, registers, frame and pins and with scratch no shorter,
 -- succeeds and leaves each number and byte of the heap equal, epoch and log included.
 use Rattle.std.specs.Prelude.{◌≡◌, List, [], ◌∷◌, map, ℕ, ◌≤◌, length}
 use Rattle.refusal.specs.declared.Answer.{Answer}
@@ -32,7 +33,8 @@ pub record NoShorter (s t : Scratch) : Type 0 where
 abbrev pub lists : Scratch → List (List ℕ)
 lists s = s.marks ∷ s.work ∷ s.rows ∷ []
 
--- a call of `collect_joined` with what is asked in a, on the memory m, answered r and left m': its contract
+-- a call of `collect_joined` with what is asked in a, on the memory m, answered r and left m':
+-- its contract
 abbrev pub Joined : Asked → Memory → Scratch → Answer → Memory → Scratch → Type 0
 Joined a m s r m' s' = outcome_of r (heap_in m') (lists s') ≡ joined_call a s.marks s.work s.rows (heap_in m)
 

@@ -1,5 +1,7 @@
--- THE EARLIER READER, as it was before requests [6], [7] and [11]: it knows one names line of slots, in which write counts are called `writes` and have 32 bits, no retired list, and no planes.
--- Nothing here is used by the code. It stands so that what is said of earlier pages and of earlier programs can be said of it.
+-- THE EARLIER READER: that of the first form of a page. It knows one names line of slots, in
+-- which write counts are called `writes` and have 32 bits, no retired list, and no planes.
+-- Nothing here is used by the code. It stands so that what is said of earlier pages and of
+-- earlier programs can be said of it.
 use Rattle.std.specs.Prelude.{ℕ, Bool, false, ◌&&◌, List, [], ltb, length, if◌then◌else◌}
 use Rattle.std.proofs.Math.Option.{Option, none, some}
 use Rattle.word.specs.Result.{Result, ok, refused}

@@ -1,4 +1,4 @@
--- Heap, page, heap: what `write_page` wrote, `read_page` takes in (01, "Page").
+-- Heap, page, heap: what `write_page` wrote, `read_page` takes in.
 use Rattle.std.specs.Prelude.{ℕ, Bool, List, ◌≡◌, take}
 use Rattle.refusal.specs.declared.Answer.{Answer}
 use Rattle.heap.specs.Lent.{Lent, view}

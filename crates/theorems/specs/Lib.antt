@@ -9,8 +9,10 @@ pub mod PageForms
 pub mod TableLayouts
 pub mod ProvedTable
 pub mod TestsPass
+pub mod CollectionCases
 pub mod CollectedTwice
 pub mod RetiredStays
 pub mod Shelf
 pub mod RootsCollected
 pub mod TableText
+pub mod Heaps

@@ -1,4 +1,4 @@
--- A page takes at most 256 + 96 × slots + 2 × data bytes (01, "Page").
+-- A page takes at most 256 + 96 × slots + 2 × data bytes.
 use Rattle.std.specs.Prelude.{ℕ, ◌+◌, ◌*◌, ◌≤◌, Bool, true, List, ◌≡◌, length}
 use Rattle.refusal.specs.declared.Answer.{Answer}
 use Rattle.heap.specs.State.{State, data_size}

@@ -1,4 +1,4 @@
--- What the theorems on the page speak of (01, "Page").
+-- What the theorems on the page speak of.
 use Rattle.std.specs.Prelude.{ℕ, ◌≤◌, ◌<◌, Bool, true, List, ◌++◌, ◌≡◌, length, drop, replicate}
 use Rattle.refusal.specs.Told.{refused_by}
 use Rattle.refusal.specs.declared.Answer.{Answer}

@@ -1,4 +1,5 @@
--- Page, heap, page: what `read_page` read in the form that is written, `write_page` writes again, byte for byte (01, "Page"; requests [6], [7] and [11]).
+-- Page, heap, page: what `read_page` read in the form that is written, `write_page` writes
+-- again, byte for byte.
 use Rattle.std.specs.Prelude.{ℕ, Bool, true, List, ◌≡◌}
 use Rattle.refusal.specs.declared.Answer.{Answer}
 use Rattle.heap.specs.Lent.{Lent}
@@ -22,7 +23,8 @@ pub record TextRead (text : List ℕ) (l' : Lent) : Type 0 where
 abbrev pub ReadFormed : Type 0
 ReadFormed = (text : List ℕ) (l' : Lent) → TextRead text l' → well_formed l' ≡ true
 
--- writing it gives a text in the form that is written back, with planes or data as it was met, and 7 for an output that is shorter
+-- writing it gives a text in the form that is written back, with planes or data as it was met,
+-- and 7 for an output that is shorter
 abbrev pub ReadWritten : Type 0
 ReadWritten =
     (p : Bool) (text : List ℕ) (l' : Lent) (out marks work : List ℕ) (r : Answer) (out' marks' work' : List ℕ) →

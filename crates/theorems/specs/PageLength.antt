@@ -1,4 +1,4 @@
--- The page has exactly as many bytes as `page_length` says (02, [9] and [11]).
+-- The page has exactly as many bytes as `page_length` says.
 use Rattle.std.specs.Prelude.{ℕ, ◌<◌, ◌≤◌, Bool, true, List, ◌++◌, ◌≡◌, length, drop}
 use Rattle.refusal.specs.Told.{refused_by}
 use Rattle.refusal.specs.declared.Answer.{Answer}
@@ -14,7 +14,8 @@ use Rattle.theorems.specs.PageCalls.{Writes, Scratch, done}
 pub record Measures (l : Lent) (planar : Bool) (marks work : List ℕ) (r : Answer) (marks' work' : List ℕ) : Type 0 where
   pub told : asked r marks' work' ≡ measuring marks work l planar
 
--- `page_length` and `write_page` on the heap in l, with scratch of one length: they answered n and w
+-- `page_length` and `write_page` on the heap in l, with scratch of one length: they answered n
+-- and w
 pub record Both (l : Lent) (planar : Bool) (out : List ℕ) (n w : Answer) (out' : List ℕ) : Type 0 where
   pub marks : List ℕ
   pub work : List ℕ
@@ -29,7 +30,8 @@ pub record Both (l : Lent) (planar : Bool) (out : List ℕ) (n w : Answer) (out'
   pub same_marks : length marks₂ ≡ length marks
   pub same_work : length work₂ ≡ length work
 
--- a page of n bytes was written from byte 0 on, and every byte from n on stays; n bytes are long enough; with fewer it is 7, and every byte stays
+-- a page of n bytes was written from byte 0 on, and every byte from n on stays; n bytes are long
+-- enough; with fewer it is 7, and every byte stays
 pub record TakesExactly (n : ℕ) (page out : List ℕ) (w : Answer) (out' : List ℕ) : Type 0 where
   pub size : length page ≡ n
   pub answer : n ≤ length out → w ≡ done n

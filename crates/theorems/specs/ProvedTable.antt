@@ -1,5 +1,6 @@
--- The proved table of 01, cases (a), (b) and (d) to (k) (request [7] took (c) out), and the depths at which nesting ends: what each definition gives, and what it should give, as numbers.
-use Rattle.std.specs.Prelude.{ℕ, Bool, List, [], ◌∷◌, length, replicate}
+-- The proved table, cases (a), (b) and (d) to (k) of docs/SCOPE.md, and the depths at which
+-- nesting ends: what each definition gives, and what it should give, as numbers.
+use Rattle.std.specs.Prelude.{ℕ, Bool, true, List, [], ◌∷◌, length, replicate, ◌≡◌}
 use Rattle.std.proofs.Math.Option.{Option, none, some}
 use Rattle.word.specs.Lists.{all}
 use Rattle.word.specs.Same.{same_list}
@@ -54,3 +55,7 @@ table =
 -- every entry is right
 unfoldable pub all_right : List Entry → Bool
 all_right es = all (λ e. same_list e.gives e.says) es
+
+-- THE PROVED TABLE
+abbrev pub ProvedTable : Type 0
+ProvedTable = all_right table ≡ true

@@ -1,4 +1,5 @@
--- Cases (d) to (j) of 01's proved table, and the depths at which nesting ends: the types, the type and the descriptor that are asked about, and the answer.
+-- Cases (d) to (j) of the proved table, and the depths at which nesting ends: the types, the
+-- type and the descriptor that are asked about, and the answer.
 use Rattle.std.specs.Prelude.{ℕ, zero, suc, ◌+◌, ◌-◌, ◌^◌, List, [], ◌∷◌, ◌++◌, Ok, Err}
 use Rattle.word.specs.Le.{bytes}
 use Rattle.ty.specs.Types.{Ty, Ty.int, Ty.enum, Ty.array, Ty.fields, Ty.access, Field.field, none}
@@ -10,7 +11,8 @@ unfoldable pub dim : ℕ → ℕ → ℕ → List ℕ
 unfolding bytes
 dim l r dir = bytes 8 l ++ bytes 8 r ++ bytes 8 dir
 
--- 0: an array of 1; 1: Int 0 .. 100; 2: an array of 3; 3: a byte Enum; 4: an array of 5; 5: a LogicKind Enum; 6: a record of 3, 7, 3; 7: Access;
+-- 0: an array of 1; 1: Int 0 .. 100; 2: an array of 3; 3: a byte Enum; 4: an array of 5; 5: a
+-- LogicKind Enum; 6: a record of 3, 7, 3; 7: Access;
 -- 8: an Enum of 256 literals; 9: of 257
 unfoldable pub sample : List Ty
 sample =

@@ -1,4 +1,6 @@
--- A type table's text, both ways, over the two public calls: what `read_table` read, `write_table` writes again, byte for byte; what `write_table` wrote, `read_table` reads back to the
+-- A type table's text, both ways, over the two public calls: what `read_table` read,
+-- `write_table` writes again, byte for byte; what `write_table` wrote, `read_table` reads back
+-- to the
 -- same lists.
 use Rattle.std.specs.Prelude.{ℕ, ◌≤◌, true, List, ◌≡◌, length, take}
 use Rattle.word.specs.Result.{Result}
@@ -29,7 +31,8 @@ pub record Reads (l : Lists) (text words halves : List ℕ) (r : TableRead) (l' 
 abbrev pub fronts : TableRead → Lists → Lists
 fronts r l = lists (take r.types l.types) (take r.fields l.fields) (take r.consts l.consts) (take r.bytes l.bytes) (take r.names l.names)
 
--- TEXT, LISTS, TEXT: the fronts of the lists that a text was read to are written as that text, and 7 for an output that is shorter
+-- TEXT, LISTS, TEXT: the fronts of the lists that a text was read to are written as that text,
+-- and 7 for an output that is shorter
 abbrev pub ReadWritten : Type 0
 ReadWritten =
     (l : Lists) (text words halves : List ℕ) (r : TableRead) (l' : Lists) (words' halves' : List ℕ) → Reads l text words halves r l' words' halves' → r.answer.number ≡ 0 →

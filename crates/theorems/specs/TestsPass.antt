@@ -1,4 +1,5 @@
--- A joined collection that no test turns away: one object, a function of one safepoint, nothing else. So what demand 3 says of a collection that is done is said of something.
+-- A joined collection that no test turns away: one object, a function of one safepoint, nothing
+-- else. So what is said of a collection that is done is said of something.
 use Rattle.std.specs.Prelude.{◌≡◌, [], ◌∷◌, replicate}
 use Rattle.heap.specs.State.{State}
 use Rattle.heap.specs.Lent.{stored}

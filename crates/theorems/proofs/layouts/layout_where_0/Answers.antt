@@ -1,0 +1,6 @@
+-- `theorems::layouts::layout_where_0` meets its contract.
+use Rattle.held_types.proofs.Once.{laid-zero}
+use Rattle.theorems.proofs.layouts.layout_where_0.Goals as goal
+
+pub returns : goal.returns
+returns c = laid-zero

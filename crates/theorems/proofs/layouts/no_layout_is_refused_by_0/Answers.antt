@@ -1,0 +1,6 @@
+-- `theorems::layouts::no_layout_is_refused_by_0` meets its contract.
+use Rattle.held_types.proofs.Once.{layout-numbered}
+use Rattle.theorems.proofs.layouts.no_layout_is_refused_by_0.Goals as goal
+
+pub returns : goal.returns
+returns c = layout-numbered

@@ -1,0 +1,34 @@
+// Two saves of one model.
+
+ghost use Rattle.saves.specs.Once.{ComparingTold, ComparingZero, OrderOnce, SameOnce};
+ghost use Rattle.saves.specs.Right.{SwapTurns, OrderTransitive};
+
+// The order turns round where the saves are named the other way round.
+pub fn swap_turns()
+    ensures { SwapTurns }
+{}
+
+// The order is transitive.
+pub fn order_is_transitive()
+    ensures { OrderTransitive }
+{}
+
+// What `same` and `order` answer is the order that is found, or the refusal.
+pub fn comparing_is_told()
+    ensures { ComparingTold }
+{}
+
+// Their number is 0 exactly if an order was found.
+pub fn order_is_found_where_0()
+    ensures { ComparingZero }
+{}
+
+// Equal numbers of `order` are one refusal, or one order.
+pub fn order_numbers_are_one_answer()
+    ensures { OrderOnce }
+{}
+
+// Equal numbers of `same` are one refusal, or yes both times, or no both times.
+pub fn same_numbers_are_one_answer()
+    ensures { SameOnce }
+{}
