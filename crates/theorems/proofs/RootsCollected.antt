@@ -35,7 +35,7 @@ front out xs n e =
     w ∙ take_all n xs (omega arith)
 
 -- the tests of `collect` pass where those of `roots_for` did
-passes : (g : Wanted) (a : Answer) (out' marks work marks₂ work₂ : List ℕ) (l : Lent) → length marks ≤ length marks₂ → length work ≤ length work₂
+pub passes : (g : Wanted) (a : Answer) (out' marks work marks₂ work₂ : List ℕ) (l : Lent) → length marks ≤ length marks₂ → length work ≤ length work₂
     → admitted (wanted_tests g marks work l) ≡ ready → admitted (tests (with_roots g a out') marks₂ work₂ l) ≡ ready
 unfolding admitted enough
 passes g a out' marks work marks₂ work₂ l m w i =

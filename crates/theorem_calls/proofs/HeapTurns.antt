@@ -1,0 +1,144 @@
+-- Calls on a heap in turn. Assumes nothing.
+use Prim.Native.Nat.{ℕ, ◌≤◌}
+use mathlib.Core.Bool.{Bool, true, false, ◌&&◌}
+use mathlib.Core.List.{List, [], ◌∷◌, ◌++◌, map}
+use mathlib.Core.Logic.{inl, inr}
+use mathlib.Core.Path.{◌≡◌, refl, sym, ap, ◌∙◌}
+use native.Mathlib.Omega.{arith}
+use lib.Dec.{leb}
+use lib.ListN.{length, length-map}
+use borrow.Author.Tests.{leb-true}
+use Rattle.std.specs.Prelude.{Ok, Err, ◌⊎◌, if◌then◌else◌}
+use Rattle.word.specs.Result.{Result, ok, refused}
+use Rattle.refusal.specs.Told.{number_of, refused_by, answered, nothing}
+use Rattle.refusal.specs.declared.Answer.{Answer}
+use Rattle.refusal.specs.declared.Refusal.{Refusal}
+use Rattle.refusal.specs.declared.Refusal.TheVariants.{BrokenHeap, Scratch as ScratchShort, NoMap}
+use Rattle.heap.specs.Lent.{Lent, view}
+use Rattle.heap.specs.WellFormed.{well_formed}
+use Rattle.collect.specs.Collect.{collecting}
+use Rattle.code.specs.Lent.{function, need}
+use Rattle.flow.specs.Function.{safepoint}
+use Rattle.collection.specs.Shown.{shown}
+use Rattle.collection.specs.Collected.{graph, starts}
+use Rattle.wanted.specs.Outcome.{handle_at}
+use Rattle.wanted.specs.Way.{roots_for}
+use Rattle.door.specs.HeapCalls.{Asked as Reply, asked_of, asking, admitted, whether, scratch_after, zeros, Outcome, outcome_of, Entry, Test, test, ready}
+use Rattle.collect_door.specs.Calls.{Asked, joined_call, joined_tests, joining, roomy, input_tests, Given, tests as collect_tests, table_in, given_tests, collect_call}
+use Rattle.collect_door.specs.Demand.{done}
+use Rattle.collect_door.proofs.Theorem.{has_done, demand}
+use Rattle.wanted_door.specs.RootsFor.{listed, root_handles, Given as Wanted, table_in as wanted_table, tests, roots_call}
+use Rattle.wanted_door.proofs.Theorem.{rightly-found}
+use Rattle.theorems.specs.CollectedTwice.{Memory, heap_in, Scratch, lists, Joined}
+use Rattle.theorems.specs.RootsCollected.{Found, with_roots}
+use Rattle.theorems.proofs.CollectedTwice.{collected-twice}
+use Rattle.theorems.proofs.RootsCollected.{passes}
+use Rattle.theorem_calls.proofs.Turns.{zeros-twice, enough-again, asking-left, calling-left, calling-again}
+
+-- ---- a joined collection, and the same again
+
+roomy-again : (n : ℕ) (s t : Scratch) (l : Lent) → length t.marks ≡ length s.marks → length t.work ≡ length s.work → length t.rows ≡ length s.rows
+    → roomy n t.marks t.work t.rows l ≡ roomy n s.marks s.work s.rows l
+unfolding roomy
+roomy-again n s t l x y w = λ j. enough-again s.marks s.work t.marks t.work l x y j && leb n (w j)
+
+-- its tests look at the lengths of scratch alone
+joined-tests-again : (a : Asked) (s t : Scratch) (l : Lent) → length t.marks ≡ length s.marks → length t.work ≡ length s.work → length t.rows ≡ length s.rows
+    → admitted (joined_tests a t.marks t.work t.rows l) ≡ admitted (joined_tests a s.marks s.work s.rows l)
+joined-tests-again a s t l x y w =
+    ap (λ (b : Bool). admitted ((test b ScratchShort ∷ test (well_formed l) BrokenHeap ∷ input_tests a.types a.fields a.consts a.bytes a.code a.values a.pins a.addresses) ++ test (safepoint (function a.code) a.pc) NoMap ∷ []))
+    (roomy-again (need a.code) s t l x y w)
+
+module _ (a : Asked) (m m' m'' : Memory) (s s' s'' : Scratch) (r q : Answer) (e : Joined a m s r m' s') (f : Joined a m' s' q m'' s'') (x : length s'.marks ≡ length s.marks)
+    (y : length s'.work ≡ length s.work) (w : length s'.rows ≡ length s.rows) where
+  l : Lent
+  l = heap_in m
+
+  left : lists s' ≡ scratch_after (admitted (joined_tests a s.marks s.work s.rows l)) (lists s)
+  unfolding l
+  left = ap (λ (o : Outcome). o.scratch) e ∙ calling-left nothing nothing (joined_tests a s.marks s.work s.rows l) (joined_tests a s.marks s.work s.rows l) (lists s) (lists s) l (joining a)
+
+  -- done: nothing is left to do
+  after-done : r ≡ done → outcome_of q (heap_in m'') (lists s'') ≡ outcome_of r (heap_in m') (lists s')
+  unfolding l
+  after-done z =
+      let k = collected-twice a m s r m' s' e z s' q m'' s'' (record { marks = omega (arith, x); work = omega (arith, y); rows = omega (arith, w) }) f in
+      let i = has_done a s.marks s.work s.rows l (outcome_of r (heap_in m') (lists s')) e z in
+      let zero : lists s' ≡ map zeros (lists s) = left ∙ ap (λ (v : Entry). scratch_after v (lists s)) i.0 in
+      let c : lists s'' ≡ lists s' = k.2 ∙ ap (map zeros) zero ∙ zeros-twice (lists s) ∙ sym zero in
+      λ j. outcome_of ((k.0 ∙ sym z) j) (heap_in (k.1 j)) (c j)
+
+  -- refused: the heap is what it was, and the second call meets what the first met
+  after-refused : heap_in m' ≡ l → Joined a m s q m'' s''
+  unfolding l
+  after-refused h =
+      f ∙ ap (λ (n : Lent). joined_call a s'.marks s'.work s'.rows n) h
+      ∙ calling-again nothing nothing (joined_tests a s.marks s.work s.rows l) (joined_tests a s'.marks s'.work s'.rows l) (lists s) (lists s') l (joining a) (joined-tests-again a s s' l x y w) left
+
+  by-answer : (r ≡ done) ⊎ ((why : Refusal) × (r ≡ refused_by (number_of why))) → Joined a m s q m'' s''
+  unfolding l
+  by-answer (inl z) = after-done z ∙ e
+  by-answer (inr z) = after-refused ((demand a s.marks s.work s.rows (heap_in m) (outcome_of r (heap_in m') (lists s')) e).refusals.unchanged z.0 z.1)
+
+  -- the second call answers and leaves what one call does
+  pub twice : Joined a m s q m'' s''
+  twice = by-answer (demand a s.marks s.work s.rows (heap_in m) (outcome_of r (heap_in m') (lists s')) e).refusals.answers
+
+  pub first-answer : r ≡ (joined_call a s.marks s.work s.rows (heap_in m)).answer
+  first-answer = ap (λ (o : Outcome). o.answer) e
+
+  pub same-header : m'.header ≡ m''.header
+  same-header = ap (λ (o : Outcome). o.heap.header) (e ∙ sym twice)
+
+-- ---- roots, and a collection with them
+
+-- roots that were found fit the list that they were written to
+pub roots-fit : (g : Wanted) (marks work out : List ℕ) (l : Lent) (a : Answer) (scratch : List (List ℕ)) → asked_of a scratch ≡ roots_call g marks work l out → a.first ≤ length out
+unfolding asking root_handles listed
+roots-fit g marks work out l a scratch e =
+    go (admitted (tests g marks work l)) (roots_for (graph (view l) (shown (wanted_table g) (view l))) (starts (view l) [] g.pins) (length (view l).slots) g.wanted) (ap (λ (x : Reply). x.answer) e)
+  where
+    fitting : (is : List ℕ) (b : Bool) → leb (length is) (length out) ≡ b → a ≡ answered length nothing (if b then ok (map (handle_at (view l)) is) else refused 7) → a.first ≤ length out
+    fitting is true eb q = let h = leb-true (length is) (length out) eb in omega (arith, h, ap (λ (x : Answer). x.first) q, length-map is (handle_at (view l)))
+    fitting is false eb q = omega (arith, ap (λ (x : Answer). x.first) q)
+
+    go : (x : Entry) (r : Result (List ℕ))
+        → a ≡ (whether x (λ why. asked_of (refused_by (number_of why)) (scratch_after (Err why) (marks ∷ work ∷ []))) (asked_of (answered length nothing (listed (view l) r (length out))) (map zeros (marks ∷ work ∷ [])))).answer
+        → a.first ≤ length out
+    go (Err why) r q = omega (arith, ap (λ (x : Answer). x.first) q)
+    go (Ok _) (refused n) q = omega (arith, ap (λ (x : Answer). x.first) q)
+    go (Ok _) (ok is) q = fitting is (leb (length is) (length out)) refl q
+
+collect-tests-again : (g : Given) (marks work marks' work' : List ℕ) (l : Lent) → length marks' ≡ length marks → length work' ≡ length work
+    → admitted (collect_tests g marks' work' l) ≡ admitted (collect_tests g marks work l)
+collect-tests-again g marks work marks' work' l a b =
+    ap (λ (t : Bool). admitted ((test t ScratchShort ∷ test (well_formed l) BrokenHeap ∷ []) ++ given_tests g.types g.fields g.consts g.bytes g.pins)) (enough-again marks work marks' work' l a b)
+
+module _ (g : Wanted) (marks work out marks' work' out' : List ℕ) (l : Lent) (a : Answer) (e : Found g marks work l out a (marks' ∷ work' ∷ []) out') (z : a.number ≡ 0)
+    (x : length marks' ≡ length marks) (y : length work' ≡ length work) where
+  found-ready : admitted (tests g marks work l) ≡ ready
+  found-ready = ((rightly-found g marks work l out a (marks' ∷ work' ∷ []) out' e.answer e.written).best z).0
+
+  zero-left : marks' ∷ work' ∷ [] ≡ zeros marks ∷ zeros work ∷ []
+  zero-left =
+      ap (λ (k : Reply). k.scratch) e.answer
+      ∙ asking-left length nothing (tests g marks work l) (tests g marks work l) (marks ∷ work ∷ []) (marks ∷ work ∷ []) l (root_handles (wanted_table g) g.pins g.wanted (length out))
+      ∙ ap (λ (v : Entry). scratch_after v (marks ∷ work ∷ [])) found-ready
+
+  -- the collection does what it would have done at the beginning, with these roots
+  pub collects-first : collect_call (with_roots g a out') marks' work' l ≡ collect_call (with_roots g a out') marks work l
+  collects-first =
+      let t : List Test = collect_tests (with_roots g a out') marks work l in
+      let i : admitted t ≡ ready = passes g a out' marks work marks work l (omega arith) (omega arith) found-ready in
+      calling-again nothing nothing t (collect_tests (with_roots g a out') marks' work' l) (marks ∷ work ∷ []) (marks' ∷ work' ∷ []) l (collecting (table_in (with_roots g a out')) (with_roots g a out').roots g.pins)
+      (collect-tests-again (with_roots g a out') marks work marks' work' l x y) (zero-left ∙ sym (ap (λ (v : Entry). scratch_after v (marks ∷ work ∷ [])) i))
+
+  -- and leaves the scratch zero, as it was
+  pub finds-last : {marks'' work'' : List ℕ} {q : Answer} {l' : Lent} → outcome_of q l' (marks'' ∷ work'' ∷ []) ≡ collect_call (with_roots g a out') marks' work' l → Found g marks work l out a (marks'' ∷ work'' ∷ []) out'
+  finds-last d =
+      let t : List Test = collect_tests (with_roots g a out') marks work l in
+      let i : admitted t ≡ ready = passes g a out' marks work marks work l (omega arith) (omega arith) found-ready in
+      let s = ap (λ (o : Outcome). o.scratch) (d ∙ collects-first)
+      ∙ calling-left nothing nothing t t (marks ∷ work ∷ []) (marks ∷ work ∷ []) l (collecting (table_in (with_roots g a out')) (with_roots g a out').roots g.pins)
+      ∙ ap (λ (v : Entry). scratch_after v (marks ∷ work ∷ [])) i ∙ sym zero-left in
+      record { answer = ap (asked_of a) s ∙ e.answer; written = e.written }

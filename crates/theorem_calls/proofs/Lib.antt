@@ -1,0 +1,4 @@
+-- Lemmas on two calls in turn.
+mod Turns
+mod PageTurns
+mod HeapTurns
