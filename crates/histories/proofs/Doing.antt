@@ -1,7 +1,7 @@
 -- Every public call does its steps: its contract's definition is what they answer and leave. Assumes nothing.
 use mathlib.Core.Path.{◌≡◌, refl, sym, ap, ◌∙◌, subst}
 use mathlib.Core.Bool.{true}
-use mathlib.Core.List.{List, [], ◌∷◌, ◌++◌, map}
+use mathlib.Core.List.{List, [], ◌∷◌, map}
 use mathlib.Core.Option.{Option, none, some}
 use Prim.Native.Nat.{ℕ}
 use Rattle.word.specs.Result.{Result, ok, refused}
@@ -27,10 +27,13 @@ use Rattle.script.specs.Script.{lines, silent, quiet, doing as line_doing, line_
 use Rattle.script.specs.Calls.{Call as LineCall, alloc as alloc_line, take as take_line, seal as seal_line, recycle as recycle_line}
 use Rattle.script.specs.Reading.{call_of}
 use Rattle.run_door.specs.Run.{run_tests}
+use Rattle.std.specs.declared.cmp.Ordering.{Ordering}
+use Rattle.saves.specs.Saves.{ordering, same_number, order_number, Save, Words, table_in as table_in_words, save_tests, scratch_of, comparing}
 use Rattle.histories.specs.Steps.{Told, Step, alloc, reissue, edit, write, take, free, recycle, seal, collect, ask, nothing as silence, handle, slot, object, told, saying, answering, silently, doing, Value}
 use Rattle.histories.specs.History.{after}
 use Rattle.histories.specs.Calls.{Scratch, Call, alloc_from, reissue as reissue_call, edit as edit_call, write as write_call, take as take_out, free as free_call, recycle as recycle_call, seal as seal_call, collect as collect_call, collect_joined, run, question, leaving, contract, turned, joined_step, line_step, unless_refused, line_steps, steps}
-use Rattle.histories.specs.Promises.{numbers, ended_by, ending, first_told, said_of, Does, CallsDoSteps, told_by, QuestionsAreCalls}
+use Rattle.histories.specs.Promises.{numbers, ended_by, ending, first_told, said_of, Does, CallsDoSteps}
+use Rattle.histories.specs.Questions.{told_by, QuestionsAreCalls, AsksBoth, ComparisonsAreCalls}
 use Rattle.histories.proofs.Histories.{after-grew}
 use Rattle.code.specs.Lent.{function}
 use lib.ListN.{length}
@@ -159,17 +162,43 @@ does-asking scratch tests l wf answer = go (admitted tests)
     go (Ok _) = unfold doing in record { leaves = (formed-tested l wf).lies; tells = numbers-told (answer (view l)) }
     go (Err why) = turned-away {A = Told} (λ (t : Told). t.first) (λ (t : Told). t.second) scratch tests l wf why (scratch_after (Err why) scratch)
 
-pub questions-are-calls : QuestionsAreCalls
+pub questions-are-calls : (A : Type 0) → QuestionsAreCalls A
 unfolding replying
-questions-are-calls A first second s more l question' = go (admitted (heap_tests s.marks s.work l ++ more)) (question' (view l))
+questions-are-calls A first second s scratch tests l question' = go (admitted tests) (question' (view l))
   where
     go : (e : Entry) (r : Result A)
-        → leaving l (whether e (λ why. asked_of (refused_by (number_of why)) (scratch_after (Err why) (s.marks ∷ s.work ∷ []))) (asked_of (answered first second r) (map zeros (s.marks ∷ s.work ∷ []))))
-        ≡ leaving l (whether e (λ why. asked_of (refused_by (number_of why)) (scratch_after (Err why) (s.marks ∷ s.work ∷ [])))
-        (asked_of (answered (λ (t : Told). t.first) (λ (t : Told). t.second) (told_by first second r)) (map zeros (s.marks ∷ s.work ∷ []))))
+        → leaving l (whether e (λ why. asked_of (refused_by (number_of why)) (scratch_after (Err why) scratch)) (asked_of (answered first second r) (map zeros scratch)))
+        ≡ leaving l (whether e (λ why. asked_of (refused_by (number_of why)) (scratch_after (Err why) scratch))
+        (asked_of (answered (λ (t : Told). t.first) (λ (t : Told). t.second) (told_by first second r)) (map zeros scratch)))
     go (Ok _) (ok a) = refl
     go (Ok _) (refused n) = refl
     go (Err why) r = refl
+
+-- asked of the second heap
+second-asked : {A : Type 0} (first second : A → ℕ) (scratch : List (List ℕ)) (tests : List Test) (l m : Lent) (here-asked there-asked : State → Result A)
+    → here-asked (view l) ≡ there-asked (view m)
+    → leaving m (replying first second scratch tests l here-asked) ≡ leaving m (replying first second scratch tests m there-asked)
+unfolding replying
+second-asked {A} first second scratch ts l m here-asked there-asked e =
+    ap (λ (r : Result A). leaving m (whether (admitted ts) (λ why. asked_of (refused_by (number_of why)) (scratch_after (Err why) scratch)) (asked_of (answered first second r) (map zeros scratch)))) e
+
+asks-both : (number : Ordering → ℕ) (w : Words) (s t : Save) → AsksBoth number w s t (comparing number w s t)
+asks-both number w s t =
+    record {
+      first = λ x. questions-are-calls Ordering number nothing x (scratch_of s t) (save_tests w s t) s.heap here-asked;
+      second = λ x.
+          second-asked number nothing (scratch_of s t) (save_tests w s t) s.heap t.heap here-asked there-asked refl
+          ∙ questions-are-calls Ordering number nothing x (scratch_of s t) (save_tests w s t) t.heap there-asked;
+    }
+  where
+    here-asked : State → Result Ordering
+    here-asked h = ordering (table_in_words w) h (view t.heap) s.roots t.roots
+
+    there-asked : State → Result Ordering
+    there-asked h = ordering (table_in_words w) (view s.heap) h s.roots t.roots
+
+pub comparisons-are-calls : ComparisonsAreCalls
+comparisons-are-calls w s t = (asks-both same_number w s t, asks-both order_number w s t)
 
 -- ---- every call
 
@@ -197,7 +226,7 @@ module _ (s : Scratch) (l : Lent) (wf : well_formed l ≡ true) where
       does-calling nothing nothing (s.marks ∷ s.work ∷ s.rows ∷ []) (joined_tests a s.marks s.work s.rows l) l wf (joining a) (joined_step a (frame a)) (λ _. silence)
       (joined_step_lem (slot_count l) (pool_size l) a (view l)) (λ a. refl)
   does-by (run text) = does-run (s.room ∷ s.marks ∷ s.work ∷ []) (run_tests s.room s.marks s.work l text) l wf text
-  does-by (question more answer) = does-asking two (front ++ more) l wf answer
+  does-by (question scratch tests answer) = does-asking scratch tests l wf answer
 
   sound-in : Sound (slot_count l) (pool_size l) (view l)
   sound-in = (formed-tested l wf).sound

@@ -1,4 +1,4 @@
--- Histories of public calls on lent memory: 02, [8]. Assumes nothing.
+-- Histories of public calls on lent memory. Assumes nothing.
 use mathlib.Core.Path.{◌≡◌, refl, sym, ap, ◌∙◌, subst}
 use mathlib.Core.Bool.{true}
 use mathlib.Core.List.{List, [], ◌∷◌, ◌++◌}
@@ -6,7 +6,7 @@ use Prim.Native.Nat.{ℕ}
 use native.Mathlib.Omega.{arith}
 use lib.ListN.{length}
 use Rattle.heap.specs.State.{State}
-use Rattle.heap.specs.Lent.{Lent, stored, view, slot_count, pool_size}
+use Rattle.heap.specs.Lent.{Lent, view, slot_count, pool_size}
 use Rattle.heap.specs.WellFormed.{well_formed}
 use Rattle.heap.specs.Calls.{new, live_count}
 use Rattle.heap.proofs.Sound.{Sound}
@@ -18,7 +18,7 @@ use Rattle.heap.proofs.Storing.{stored-count, stored-room}
 use Rattle.histories.specs.Steps.{Step}
 use Rattle.histories.specs.History.{after, Resolves}
 use Rattle.histories.specs.Calls.{Scratch, Call, contract, steps, Made, left, all_steps}
-use Rattle.histories.specs.Promises.{heap_after, Promises, NoHandleTwice, NoHandleTwiceFrom}
+use Rattle.histories.specs.Promises.{state_after, Promises, NoHandleTwice, NoHandleTwiceFrom}
 use Rattle.histories.proofs.Histories.{after-grew, after-append, once, never, objects, counted, slots}
 use Rattle.histories.proofs.Doing.{calls-do-steps}
 
@@ -64,11 +64,7 @@ lies-after (m ∷ ms) l wf =
     let a = call_lies m.scratch m.call l wf in
     lies-on a (lies-after ms (contract m.scratch m.call l).heap a.formed)
 
-left-append : (ms ns : List Made) (l : Lent) → left (ms ++ ns) l ≡ left ns (left ms l)
-left-append [] ns l = refl
-left-append (m ∷ ms) ns l = left-append ms ns (contract m.scratch m.call l).heap
-
--- ---- the request
+-- ---- what is promised
 
 module _ (l : Lent) (wf : well_formed l ≡ true) (ms : List Made) where
   abbrev S : ℕ
@@ -83,27 +79,20 @@ module _ (l : Lent) (wf : well_formed l ≡ true) (ms : List Made) where
   met : Lies l (left ms l) (all_steps ms l)
   met = lies-after ms l wf
 
-  never-again : (next later : List Made) (x : ℕ) → Resolves (heap_after l ms) x → (Resolves (heap_after l (ms ++ next)) x → ⊥) → Resolves (heap_after l (ms ++ next ++ later)) x → ⊥
-  never-again next later x was gone back =
-      let l₁ : Lent = left ms l in
-      let l₂ : Lent = left next l₁ in
-      let a = lies-after next l₁ met.formed in
-      let b = lies-after later l₂ a.formed in
-      let k₁ : Sound (slot_count l₁) (pool_size l₁) (view l₁) = (formed-tested l₁ met.formed).sound in
-      let e₂ : left (ms ++ next) l ≡ l₂ = left-append ms next l in
-      let e₃ : left (ms ++ next ++ later) l ≡ left later l₂ = left-append (ms ++ next) later l ∙ ap (left later) e₂ in
-      let after₂ : view (left later l₂) ≡ after (slot_count l₁) (pool_size l₁) (all_steps later l₂) (after (slot_count l₁) (pool_size l₁) (all_steps next l₁) (view l₁)) =
-      b.heap ∙ resized (slot_count l₁) (slot_count l₂) (pool_size l₁) (pool_size l₂) (all_steps later l₂) (view l₂) a.count a.room
-      ∙ ap (after (slot_count l₁) (pool_size l₁) (all_steps later l₂)) a.heap in
-      never (slot_count l₁) (pool_size l₁) (all_steps next l₁) (all_steps later l₂) (view l₁) x k₁ was
-      (λ q. gone (subst (λ (h : State). Resolves h x) (sym (ap view e₂ ∙ a.heap)) q))
-      (subst (λ (h : State). Resolves h x) (ap view e₃ ∙ after₂) back)
+  never-again : (before next later : List Step) (x : ℕ) → Resolves (state_after l before) x → (Resolves (state_after l (before ++ next)) x → ⊥) → Resolves (state_after l (before ++ (next ++ later))) x → ⊥
+  never-again before next later x was gone back =
+      let h : State = state_after l before in
+      never S P next later h x (after-grew S P before (view l) sound-in).sound was
+      (λ q. gone (subst (λ (k : State). Resolves k x) (sym (after-append S P before next (view l))) q))
+      (subst (λ (k : State). Resolves k x) (after-append S P before (next ++ later) (view l) ∙ after-append S P next later h) back)
 
   promised : Promises l (live_count (view l).slots) (length (view l).slots) ms
   promised =
       record {
         once = once S P (all_steps ms l) (view l) sound-in;
-        never = never-again;
+        never = λ before next later rest x e. never-again before next later x;
+        lies = met.heap;
+        formed = met.formed;
         objects = λ n lost. omega (arith, objects S P (all_steps ms l) (view l) sound-in n lost, ap (λ (h : State). live_count h.slots) met.heap);
         counted = counted S P (all_steps ms l) (view l) sound-in;
         slots = omega (arith, slots S P (all_steps ms l) (view l) sound-in, ap (λ (h : State). length h.slots) met.heap);

@@ -1,5 +1,6 @@
--- Every public call on a heap in lent memory (02, [8]), with what its host gives it; what its contract says that it answers and leaves; and the steps that it comes to.
--- `new` and `read_page` make or load a heap and stand before a history, not in it.
+-- Every public call on a heap in lent memory, with what its host gives it; what its contract says that it
+-- answers and leaves; and the steps that it comes to. `new` and `read_page` make or load a heap and stand
+-- before a history, not in it.
 use Rattle.std.specs.Prelude.{List, [], ◌∷◌, ◌++◌, ℕ, length}
 use Rattle.std.proofs.Math.Option.{Option, none, some}
 use Rattle.word.specs.Result.{Result, ok, refused}
@@ -31,8 +32,9 @@ pub record Scratch : Type 0 where
 abbrev pub lending : (marks work : List ℕ) → Scratch
 lending marks work = record { marks = marks; work = work; rows = []; room = [] }
 
--- Each call with its arguments. `alloc` is `allocFrom` with start 0. `question` is each call that is lent a heap to read: what it asks beside scratch and heap, and what
--- it asks of the heap.
+-- Each call with its arguments. `alloc` is `alloc_from` with start 0. `question` is each call that is lent a
+-- heap to read: the scratch that it is lent, what it tests first, and what it asks of the heap. `same` and
+-- `order` are lent a second heap: scratch and tests are then of both (specs/Questions.antt).
 pub data Call : Type 0 where
   alloc_from : (kind type start : ℕ) (bytes : List ℕ) → Call
   reissue : (i grown : ℕ) → Call
@@ -45,7 +47,7 @@ pub data Call : Type 0 where
   collect : Given → Call
   collect_joined : Asked → Call
   run : (text : List ℕ) → Call
-  question : (more : List Test) (answer : State → Result Told) → Call
+  question : (scratch : List (List ℕ)) (tests : List Test) (answer : State → Result Told) → Call
 
 -- a question leaves lent memory as it was
 abbrev pub leaving : Lent → Reply → Outcome
@@ -64,8 +66,7 @@ contract s seal l = heap_call nothing nothing s.marks s.work l sealing
 contract s (collect g) l = collect_call g s.marks s.work l
 contract s (collect_joined a) l = joined_call a s.marks s.work s.rows l
 contract s (run text) l = run_call s.room s.marks s.work l text
-contract s (question more answer) l =
-    leaving l (replying (λ (t : Told). t.first) (λ (t : Told). t.second) (s.marks ∷ s.work ∷ []) (heap_tests s.marks s.work l ++ more) l answer)
+contract s (question scratch tests answer) l = leaving l (replying (λ (t : Told). t.first) (λ (t : Told). t.second) scratch tests l answer)
 
 -- ---- the steps that a call comes to
 
@@ -82,7 +83,7 @@ tests_of s seal l = heap_tests s.marks s.work l
 tests_of s (collect g) l = tests g s.marks s.work l
 tests_of s (collect_joined a) l = joined_tests a s.marks s.work s.rows l
 tests_of s (run text) l = run_tests s.room s.marks s.work l text
-tests_of s (question more answer) l = heap_tests s.marks s.work l ++ more
+tests_of s (question scratch tests answer) l = tests
 
 -- a call that is turned away with a number
 abbrev pub turned : ℕ → Step
@@ -132,7 +133,7 @@ steps_of seal S P h = seal_step ∷ []
 steps_of (collect g) S P h = collect_step (table_in g) g.roots g.pins ∷ []
 steps_of (collect_joined a) S P h = joined_step a (frame a) ∷ []
 steps_of (run text) S P h = line_steps S P (lines text) h
-steps_of (question more answer) S P h = ask answer ∷ []
+steps_of (question scratch tests answer) S P h = ask answer ∷ []
 
 abbrev pub steps : Scratch → Call → Lent → List Step
 steps s c l = whether (admitted (tests_of s c l)) (λ why. turned (number_of why) ∷ []) (steps_of c (slot_count l) (pool_size l) (view l))

@@ -1,5 +1,5 @@
--- 02, [8], in its own words: what holds of every history of public calls from a new heap, and of the heap that it leaves; and that the calls do the steps which are
--- counted.
+-- What holds of every history of public calls from a new heap, and of the heap that it leaves; and that the
+-- calls do the steps which are counted.
 use Rattle.std.specs.Prelude.{◌≡◌, true, List, [], ◌∷◌, ◌++◌, ℕ, ◌+◌, length}
 use Rattle.word.specs.Result.{Result, ok, refused}
 use Rattle.refusal.specs.Told.{refused_by}
@@ -10,14 +10,13 @@ use Rattle.heap.specs.WellFormed.{well_formed}
 use Rattle.heap.specs.Calls.{live_count}
 use Rattle.heap_calls.specs.Objects.{object_start, object_size}
 use Rattle.collection.specs.Collected.{starts}
-use Rattle.door.specs.HeapCalls.{Test, admitted, heap_tests, asking}
-use Rattle.door.specs.HeapCalls.{ready}
+use Rattle.door.specs.HeapCalls.{admitted, ready}
 use Rattle.collect_door.specs.Calls.{Asked}
 use Rattle.collect_door.specs.Demand.{StartsAt}
 use Rattle.object_door.specs.Making.{new_call}
-use Rattle.histories.specs.Steps.{Told, Step, nothing, handle, slot, object, told, doing, Value}
+use Rattle.histories.specs.Steps.{Step, nothing, handle, slot, object, told, doing, Value}
 use Rattle.histories.specs.History.{Books, after, issued, Distinct, Resolves, total, Lost}
-use Rattle.histories.specs.Calls.{Scratch, Call, alloc_from, reissue, edit, write, take, free, recycle, seal, collect, collect_joined, run, question, leaving, contract, tests_of, joined_roots, joined_pins, steps, Made, left, all_steps}
+use Rattle.histories.specs.Calls.{Scratch, Call, alloc_from, reissue, edit, write, take, free, recycle, seal, collect, collect_joined, run, question, contract, tests_of, joined_roots, joined_pins, steps, Made, left, all_steps}
 
 -- ---- a call does its steps
 
@@ -56,7 +55,7 @@ said_of seal S P cs h = first_told S P cs h
 said_of (collect g) S P cs h = first_told S P cs h
 said_of (collect_joined a) S P cs h = first_told S P cs h
 said_of (run text) S P cs h = refused_by (ending S P cs h)
-said_of (question more answer) S P cs h = first_told S P cs h
+said_of (question scratch tests answer) S P cs h = first_told S P cs h
 
 -- lent memory that is well formed stays so, of the same sizes, and holds the heap that the call's steps leave; its answer is theirs
 pub record Does (s : Scratch) (c : Call) (l : Lent) : Type 0 where
@@ -67,25 +66,19 @@ pub record Does (s : Scratch) (c : Call) (l : Lent) : Type 0 where
 abbrev pub CallsDoSteps : Type 0
 CallsDoSteps = (s : Scratch) (c : Call) (l : Lent) → well_formed l ≡ true → Does s c l
 
--- the chains that a joined collection's unreached are counted by start where demand 3 says: at what walks over the code find
+-- the chains by which the unreached of a joined collection are counted start at what walks over the code find
 abbrev pub JoinedChains : Type 0
 JoinedChains =
     (s : Scratch) (a : Asked) (l : Lent) (handles : List ℕ) → admitted (tests_of s (collect_joined a) l) ≡ ready → StartsAt a l handles (starts (view l) (joined_roots a handles) (joined_pins a))
-
--- every question is one of these: its answer's numbers, read off its value by `first` and `second`, are what is told of it
-abbrev pub told_by : {A : Type 0} → (first second : A → ℕ) → Result A → Result Told
-told_by first second (ok a) = ok (record { first = first a; second = second a })
-told_by first second (refused n) = refused n
-
-abbrev pub QuestionsAreCalls : Type 1
-QuestionsAreCalls =
-    (A : Type 0) (first second : A → ℕ) (s : Scratch) (more : List Test) (l : Lent) (ask : State → Result A)
-    → leaving l (asking first second (s.marks ∷ s.work ∷ []) (heap_tests s.marks s.work l ++ more) l ask) ≡ contract s (question more (λ h. told_by first second (ask h))) l
 
 -- ---- histories from lent memory l that is well formed
 
 abbrev pub heap_after : Lent → List Made → State
 heap_after l ms = view (left ms l)
+
+-- the heap after steps; a line of a run is a step of its own
+abbrev pub state_after : Lent → List Step → State
+state_after l cs = after (slot_count l) (pool_size l) cs (view l)
 
 abbrev pub issued_by : Lent → List Made → List ℕ
 issued_by l ms = issued (slot_count l) (pool_size l) (all_steps ms l) (view l)
@@ -100,8 +93,16 @@ LostBy l ms n = Lost (slot_count l) (pool_size l) (all_steps ms l) (view l) n
 pub record Promises (l : Lent) (held there : ℕ) (ms : List Made) : Type 0 where
   -- no two handles issued by `alloc` or `reissue` are equal
   pub once : Distinct (issued_by l ms)
-  -- a handle that has stopped resolving never resolves again
-  pub never : (next later : List Made) (x : ℕ) → Resolves (heap_after l ms) x → (Resolves (heap_after l (ms ++ next)) x → ⊥) → Resolves (heap_after l (ms ++ next ++ later)) x → ⊥
+  -- a handle that has stopped resolving never resolves again: `next` and `later` are any steps of the history
+  -- that follow each other, the lines of a run too
+  pub never : (before next later rest : List Step) (x : ℕ) → all_steps ms l ≡ before ++ (next ++ (later ++ rest))
+      → Resolves (state_after l before) x
+      → (Resolves (state_after l (before ++ next)) x → ⊥)
+      → Resolves (state_after l (before ++ (next ++ later))) x → ⊥
+  -- lent memory holds the heap that the steps of the calls leave
+  pub lies : heap_after l ms ≡ state_after l (all_steps ms l)
+  -- it is well formed, which is what a call without a check requires: such a call may come next
+  pub formed : well_formed (left ms l) ≡ true
   -- the number of live objects equals allocations that succeeded, less takes and frees that did, less the unreached that collections dropped
   pub objects : (lost : ℕ) → LostBy l ms lost → live_count (heap_after l ms).slots + (counting (λ b. b.removed) l ms + lost) ≡ held + counting (λ b. b.placed) l ms
   pub counted : (lost : ℕ) × LostBy l ms lost

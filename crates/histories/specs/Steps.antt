@@ -1,4 +1,4 @@
--- What a heap takes (02, [8]): each call that may change it, and every question, one step each. What a step answers and leaves is said by the definitions that the
+-- What a heap takes: each call that may change it, and every question, one step each. What a step answers and leaves is said by the definitions that the
 -- public contracts are equations with. S is the number of lent slots, P of pool bytes.
 use Rattle.std.specs.Prelude.{List, ℕ}
 use Rattle.word.specs.Result.{Result, ok, refused}

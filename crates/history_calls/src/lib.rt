@@ -1,13 +1,17 @@
-// The calls that a history is of (crate `histories`), made: each function does no more than make a public call. Its contract is the public call's own, said by `contract`
-// of crates/histories/specs/Calls.antt: so it is the public calls that the theorems on histories speak of. Questions are apart: `QuestionsAreCalls` joins them.
+// The calls that a history is of (crate `histories`), made: each function does no more than make a public call.
+// Its contract is the public call's own, said by `contract` of crates/histories/specs/Calls.antt: so it is the
+// public calls that the theorems on histories speak of. Questions are apart, as `QuestionsAreCalls` joins them;
+// but `same` and `order` are here, which are lent two heaps.
 #![tactic(auto)]
 
 ghost use Rattle.std.specs.Prelude.{◌≡◌, [], ◌∷◌};
 ghost use Rattle.heap.specs.Lent.{lent};
-ghost use Rattle.door.specs.HeapCalls.{outcome, outcome_of};
+ghost use Rattle.door.specs.HeapCalls.{outcome, outcome_of, asked_of};
 ghost use Rattle.histories.specs.Calls.{lending, contract};
 ghost use Rattle.histories.specs.Calls.{alloc_from, reissue as reissued, edit as edited, write as written, take as taken, free as freed, recycle as recycled, seal as sealed};
 ghost use Rattle.histories.specs.Calls.{collect as collected, collect_joined as joined, run as ran};
+ghost use Rattle.histories.specs.Questions.{AsksBoth};
+ghost use Rattle.saves.specs.Saves.{words_of, save_of, same_number, order_number};
 
 use door::Done;
 use heap::Heap;
@@ -251,4 +255,103 @@ pub fn run(
         (lent heap narrow.old wide.old pool.old) }
 {
     run_door::yexwalu_run(heap, narrow, wide, pool, script, room, marks, work)
+}
+
+// A question to the heap of each of two saves.
+// Kept: it has the parameters of the C interface's call, whose contract it is to show.
+pub fn same(
+    types: &[u64],
+    fields: &[u32],
+    consts: &[u64],
+    bytes: &[u8],
+    heap: Heap,
+    narrow: &[u32],
+    wide: &[u64],
+    pool: &[u8],
+    other: Heap,
+    other_narrow: &[u32],
+    other_wide: &[u64],
+    other_pool: &[u8],
+    roots: &[u64],
+    other_roots: &[u64],
+    marks: &mut [u8],
+    work: &mut [u64],
+    other_marks: &mut [u8],
+    other_work: &mut [u64],
+) -> Answer
+    ensures { AsksBoth same_number (words_of types.now fields.now consts.now bytes.now)
+        (save_of (lent heap narrow.now wide.now pool.now) roots.now marks.old work.old)
+        (save_of (lent other other_narrow.now other_wide.now other_pool.now)
+        other_roots.now other_marks.old other_work.old)
+        (asked_of result (marks.new ∷ work.new ∷ other_marks.new ∷ other_work.new ∷ [])) }
+{
+    same_door::yexwalu_same(
+        types,
+        fields,
+        consts,
+        bytes,
+        heap,
+        narrow,
+        wide,
+        pool,
+        other,
+        other_narrow,
+        other_wide,
+        other_pool,
+        roots,
+        other_roots,
+        marks,
+        work,
+        other_marks,
+        other_work,
+    )
+}
+
+// As `same`.
+pub fn order(
+    types: &[u64],
+    fields: &[u32],
+    consts: &[u64],
+    bytes: &[u8],
+    heap: Heap,
+    narrow: &[u32],
+    wide: &[u64],
+    pool: &[u8],
+    other: Heap,
+    other_narrow: &[u32],
+    other_wide: &[u64],
+    other_pool: &[u8],
+    roots: &[u64],
+    other_roots: &[u64],
+    marks: &mut [u8],
+    work: &mut [u64],
+    other_marks: &mut [u8],
+    other_work: &mut [u64],
+) -> Answer
+    ensures { AsksBoth order_number (words_of types.now fields.now consts.now bytes.now)
+        (save_of (lent heap narrow.now wide.now pool.now) roots.now marks.old work.old)
+        (save_of (lent other other_narrow.now other_wide.now other_pool.now)
+        other_roots.now other_marks.old other_work.old)
+        (asked_of result (marks.new ∷ work.new ∷ other_marks.new ∷ other_work.new ∷ [])) }
+{
+    same_door::yexwalu_order(
+        types,
+        fields,
+        consts,
+        bytes,
+        heap,
+        narrow,
+        wide,
+        pool,
+        other,
+        other_narrow,
+        other_wide,
+        other_pool,
+        roots,
+        other_roots,
+        marks,
+        work,
+        other_marks,
+        other_work,
+    )
 }
