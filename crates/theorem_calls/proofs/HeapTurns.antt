@@ -33,7 +33,7 @@ use Rattle.theorems.specs.CollectedTwice.{Memory, heap_in, Scratch, lists, Joine
 use Rattle.theorems.specs.RootsCollected.{Found, with_roots}
 use Rattle.theorems.proofs.CollectedTwice.{collected-twice}
 use Rattle.theorems.proofs.RootsCollected.{passes}
-use Rattle.theorem_calls.proofs.Turns.{zeros-twice, enough-again, asking-left, calling-left, calling-again}
+use Rattle.wanted_door.proofs.Turns.{zeros-twice, enough-again, asking-left, calling-left, calling-again}
 
 -- ---- a joined collection, and the same again
 
@@ -89,56 +89,3 @@ module _ (a : Asked) (m m' m'' : Memory) (s s' s'' : Scratch) (r q : Answer) (e 
 
   pub same-header : m'.header ≡ m''.header
   same-header = ap (λ (o : Outcome). o.heap.header) (e ∙ sym twice)
-
--- ---- roots, and a collection with them
-
--- roots that were found fit the list that they were written to
-pub roots-fit : (g : Wanted) (marks work out : List ℕ) (l : Lent) (a : Answer) (scratch : List (List ℕ)) → asked_of a scratch ≡ roots_call g marks work l out → a.first ≤ length out
-unfolding asking root_handles listed
-roots-fit g marks work out l a scratch e =
-    go (admitted (tests g marks work l)) (roots_for (graph (view l) (shown (wanted_table g) (view l))) (starts (view l) [] g.pins) (length (view l).slots) g.wanted) (ap (λ (x : Reply). x.answer) e)
-  where
-    fitting : (is : List ℕ) (b : Bool) → leb (length is) (length out) ≡ b → a ≡ answered length nothing (if b then ok (map (handle_at (view l)) is) else refused 7) → a.first ≤ length out
-    fitting is true eb q = let h = leb-true (length is) (length out) eb in omega (arith, h, ap (λ (x : Answer). x.first) q, length-map is (handle_at (view l)))
-    fitting is false eb q = omega (arith, ap (λ (x : Answer). x.first) q)
-
-    go : (x : Entry) (r : Result (List ℕ))
-        → a ≡ (whether x (λ why. asked_of (refused_by (number_of why)) (scratch_after (Err why) (marks ∷ work ∷ []))) (asked_of (answered length nothing (listed (view l) r (length out))) (map zeros (marks ∷ work ∷ [])))).answer
-        → a.first ≤ length out
-    go (Err why) r q = omega (arith, ap (λ (x : Answer). x.first) q)
-    go (Ok _) (refused n) q = omega (arith, ap (λ (x : Answer). x.first) q)
-    go (Ok _) (ok is) q = fitting is (leb (length is) (length out)) refl q
-
-collect-tests-again : (g : Given) (marks work marks' work' : List ℕ) (l : Lent) → length marks' ≡ length marks → length work' ≡ length work
-    → admitted (collect_tests g marks' work' l) ≡ admitted (collect_tests g marks work l)
-collect-tests-again g marks work marks' work' l a b =
-    ap (λ (t : Bool). admitted ((test t ScratchShort ∷ test (well_formed l) BrokenHeap ∷ []) ++ given_tests g.types g.fields g.consts g.bytes g.pins)) (enough-again marks work marks' work' l a b)
-
-module _ (g : Wanted) (marks work out marks' work' out' : List ℕ) (l : Lent) (a : Answer) (e : Found g marks work l out a (marks' ∷ work' ∷ []) out') (z : a.number ≡ 0)
-    (x : length marks' ≡ length marks) (y : length work' ≡ length work) where
-  found-ready : admitted (tests g marks work l) ≡ ready
-  found-ready = ((rightly-found g marks work l out a (marks' ∷ work' ∷ []) out' e.answer e.written).best z).0
-
-  zero-left : marks' ∷ work' ∷ [] ≡ zeros marks ∷ zeros work ∷ []
-  zero-left =
-      ap (λ (k : Reply). k.scratch) e.answer
-      ∙ asking-left length nothing (tests g marks work l) (tests g marks work l) (marks ∷ work ∷ []) (marks ∷ work ∷ []) l (root_handles (wanted_table g) g.pins g.wanted (length out))
-      ∙ ap (λ (v : Entry). scratch_after v (marks ∷ work ∷ [])) found-ready
-
-  -- the collection does what it would have done at the beginning, with these roots
-  pub collects-first : collect_call (with_roots g a out') marks' work' l ≡ collect_call (with_roots g a out') marks work l
-  collects-first =
-      let t : List Test = collect_tests (with_roots g a out') marks work l in
-      let i : admitted t ≡ ready = passes g a out' marks work marks work l (omega arith) (omega arith) found-ready in
-      calling-again nothing nothing t (collect_tests (with_roots g a out') marks' work' l) (marks ∷ work ∷ []) (marks' ∷ work' ∷ []) l (collecting (table_in (with_roots g a out')) (with_roots g a out').roots g.pins)
-      (collect-tests-again (with_roots g a out') marks work marks' work' l x y) (zero-left ∙ sym (ap (λ (v : Entry). scratch_after v (marks ∷ work ∷ [])) i))
-
-  -- and leaves the scratch zero, as it was
-  pub finds-last : {marks'' work'' : List ℕ} {q : Answer} {l' : Lent} → outcome_of q l' (marks'' ∷ work'' ∷ []) ≡ collect_call (with_roots g a out') marks' work' l → Found g marks work l out a (marks'' ∷ work'' ∷ []) out'
-  finds-last d =
-      let t : List Test = collect_tests (with_roots g a out') marks work l in
-      let i : admitted t ≡ ready = passes g a out' marks work marks work l (omega arith) (omega arith) found-ready in
-      let s = ap (λ (o : Outcome). o.scratch) (d ∙ collects-first)
-      ∙ calling-left nothing nothing t t (marks ∷ work ∷ []) (marks ∷ work ∷ []) l (collecting (table_in (with_roots g a out')) (with_roots g a out').roots g.pins)
-      ∙ ap (λ (v : Entry). scratch_after v (marks ∷ work ∷ [])) i ∙ sym zero-left in
-      record { answer = ap (asked_of a) s ∙ e.answer; written = e.written }

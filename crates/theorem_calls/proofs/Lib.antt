@@ -1,4 +1,3 @@
 -- Lemmas on two calls in turn.
-mod Turns
 mod PageTurns
 mod HeapTurns
