@@ -130,6 +130,13 @@ fn collect_joined(kept: &mut Kept, t: &Table, code: &Function, at: &Safepoint) -
     )
 }
 
+// The pins and the wanted slots of a line.
+fn pins_and_wanted(line: &mut Fields) -> Result<(Vec<u32>, Vec<u32>), Fault> {
+    let pins = line.halves(MOST_HALVES)?;
+    let wanted = line.halves(MOST_HALVES.saturating_sub(pins.len()))?;
+    Ok((pins, wanted))
+}
+
 // The collection that keeps the wanted slots, with the roots that were found. There are 8,192 slots
 // at most.
 fn collect_wanted(
@@ -182,8 +189,7 @@ pub fn answer(
             collect_joined(kept, t, code, &at)
         }
         Collection::Wanted => {
-            let pins = line.halves(MOST_HALVES)?;
-            let wanted = line.halves(MOST_HALVES.saturating_sub(pins.len()))?;
+            let (pins, wanted) = pins_and_wanted(line)?;
             collect_wanted(rt, kept, t, &pins, &wanted)?;
             return Ok(());
         }

@@ -1,39 +1,28 @@
 -- Calls on a heap in turn. Assumes nothing.
-use Prim.Native.Nat.{ℕ, ◌≤◌}
-use mathlib.Core.Bool.{Bool, true, false, ◌&&◌}
-use mathlib.Core.List.{List, [], ◌∷◌, ◌++◌, map}
+use Prim.Native.Nat.{ℕ}
+use mathlib.Core.Bool.{Bool, ◌&&◌}
+use mathlib.Core.List.{[], ◌∷◌, ◌++◌, map}
 use mathlib.Core.Logic.{inl, inr}
-use mathlib.Core.Path.{◌≡◌, refl, sym, ap, ◌∙◌}
+use mathlib.Core.Path.{◌≡◌, sym, ap, ◌∙◌}
 use native.Mathlib.Omega.{arith}
 use lib.Dec.{leb}
-use lib.ListN.{length, length-map}
-use borrow.Author.Tests.{leb-true}
-use Rattle.std.specs.Prelude.{Ok, Err, ◌⊎◌, if◌then◌else◌}
-use Rattle.word.specs.Result.{Result, ok, refused}
-use Rattle.refusal.specs.Told.{number_of, refused_by, answered, nothing}
+use lib.ListN.{length}
+use Rattle.std.specs.Prelude.{◌⊎◌}
+use Rattle.refusal.specs.Told.{number_of, refused_by, nothing}
 use Rattle.refusal.specs.declared.Answer.{Answer}
 use Rattle.refusal.specs.declared.Refusal.{Refusal}
 use Rattle.refusal.specs.declared.Refusal.TheVariants.{BrokenHeap, Scratch as ScratchShort, NoMap}
-use Rattle.heap.specs.Lent.{Lent, view}
+use Rattle.heap.specs.Lent.{Lent}
 use Rattle.heap.specs.WellFormed.{well_formed}
-use Rattle.collect.specs.Collect.{collecting}
 use Rattle.code.specs.Lent.{function, need}
 use Rattle.flow.specs.Function.{safepoint}
-use Rattle.collection.specs.Shown.{shown}
-use Rattle.collection.specs.Collected.{graph, starts}
-use Rattle.wanted.specs.Outcome.{handle_at}
-use Rattle.wanted.specs.Way.{roots_for}
-use Rattle.door.specs.HeapCalls.{Asked as Reply, asked_of, asking, admitted, whether, scratch_after, zeros, Outcome, outcome_of, Entry, Test, test, ready}
-use Rattle.collect_door.specs.Calls.{Asked, joined_call, joined_tests, joining, roomy, input_tests, Given, tests as collect_tests, table_in, given_tests, collect_call}
+use Rattle.door.specs.HeapCalls.{admitted, scratch_after, zeros, Outcome, outcome_of, Entry, test}
+use Rattle.collect_door.specs.Calls.{Asked, joined_call, joined_tests, joining, roomy, input_tests}
 use Rattle.collect_door.specs.Demand.{done}
 use Rattle.collect_door.proofs.Theorem.{has_done, demand}
-use Rattle.wanted_door.specs.RootsFor.{listed, root_handles, Given as Wanted, table_in as wanted_table, tests, roots_call}
-use Rattle.wanted_door.proofs.Theorem.{rightly-found}
 use Rattle.theorems.specs.CollectedTwice.{Memory, heap_in, Scratch, lists, Joined}
-use Rattle.theorems.specs.RootsCollected.{Found, with_roots}
 use Rattle.theorems.proofs.CollectedTwice.{collected-twice}
-use Rattle.theorems.proofs.RootsCollected.{passes}
-use Rattle.wanted_door.proofs.Turns.{zeros-twice, enough-again, asking-left, calling-left, calling-again}
+use Rattle.wanted_door.proofs.Turns.{zeros-twice, enough-again, calling-left, calling-again}
 
 -- ---- a joined collection, and the same again
 

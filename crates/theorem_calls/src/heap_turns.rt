@@ -1,19 +1,12 @@
-// Calls on a heap in turn: a joined collection made twice, and roots that were found for the
-// collection that follows.
+// A call on a heap, and the same again.
 
-ghost use Rattle.std.specs.Prelude.{◌≡◌, ◌↔◌, ℕ, true, [], ◌∷◌};
-ghost use Rattle.heap.specs.Lent.{lent, view};
-ghost use Rattle.heap.specs.State.{slot_at, live};
-ghost use Rattle.reach.specs.Reach.{◌∈◌};
-ghost use Rattle.door.specs.HeapCalls.{outcome};
-ghost use Rattle.collect_door.specs.Calls.{joined_call, collect_call};
-ghost use Rattle.collect_door.specs.Demand.{done};
+ghost use Rattle.std.specs.Prelude.{◌≡◌};
+ghost use Rattle.heap.specs.Lent.{lent};
+ghost use Rattle.collect_door.specs.Calls.{joined_call};
 ghost use Rattle.theorems.specs.CollectedTwice.{Joined};
-ghost use Rattle.theorems.specs.RootsCollected.{Found, with_roots};
 
 use door::Done;
 use heap::Heap;
-use refusal::Answer;
 
 // A joined collection, and the same once more: the second gives the same answer, and leaves every
 // byte as the first left it.

@@ -5,4 +5,4 @@
 #![tactic(auto)]
 
 pub mod page_turns; // a page measured, written and read
-pub mod heap_turns; // collections in turn, and roots found for one
+pub mod heap_turns; // a joined collection made twice

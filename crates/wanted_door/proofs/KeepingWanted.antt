@@ -10,12 +10,11 @@ use lib.Dec.{leb, eqb}
 use lib.ListN.{length, take, length-map}
 use lib.Seq.{take_all}
 use borrow.Author.Tests.{leb-true, le-leb, eq-eqb, ne_eqb}
-use Rattle.std.specs.Prelude.{Ok, Err, if◌then◌else◌}
+use Rattle.std.specs.Prelude.{if◌then◌else◌}
 use Rattle.word.specs.Put.{put}
-use Rattle.word.specs.Result.{Result, ok, refused}
 use Rattle.word.proofs.Bools.{and_both}
 use Rattle.word.proofs.PutLaws.{take_put}
-use Rattle.refusal.specs.Told.{number_of, refused_by, answered, nothing}
+use Rattle.refusal.specs.Told.{answered, nothing}
 use Rattle.refusal.specs.declared.Answer.{Answer}
 use Rattle.refusal.specs.declared.Refusal.TheVariants.{BrokenHeap, Scratch}
 use Rattle.heap.specs.State.{State, slot_at, live}
@@ -25,16 +24,14 @@ use Rattle.heap.specs.Calls.{Changed}
 use Rattle.heap.proofs.Storing.{view-stored}
 use Rattle.reach.specs.Reach.{◌∈◌}
 use Rattle.collection.specs.Shown.{shown}
-use Rattle.collection.specs.Collected.{graph, starts}
 use Rattle.collect.specs.Collect.{collecting}
-use Rattle.door.specs.HeapCalls.{Test, test, admitted, enough, ready, whether, scratch_after, zeros, Entry, Asked, asked_of, asking, Outcome, outcome_of}
+use Rattle.door.specs.HeapCalls.{test, admitted, enough, ready, scratch_after, zeros, Entry, Asked, asked_of, Outcome, outcome_of}
 use Rattle.door.proofs.Entering.{all_hold, calling-ready}
 use Rattle.collect_door.specs.Calls.{Given as Collecting, table_in as collect_table, tests as collect_tests, given_tests, collect_call}
-use Rattle.collect_door.specs.Demand.{done, RightlyCollected}
+use Rattle.collect_door.specs.Demand.{done}
 use Rattle.collect_door.proofs.Theorem.{collect-rightly}
 use Rattle.wanted.specs.Outcome.{handle_at, Outcome as Serves}
-use Rattle.wanted.specs.Way.{roots_for}
-use Rattle.wanted_door.specs.RootsFor.{listed, root_handles, Given, table_in, tests, roots_call, roots_out}
+use Rattle.wanted_door.specs.RootsFor.{root_handles, Given, table_in, tests, roots_call, roots_out}
 use Rattle.wanted_door.specs.CollectWanted.{with_roots, wanted_call, KeepsWanted}
 use Rattle.wanted_door.proofs.Theorem.{rightly-found}
 use Rattle.wanted_door.proofs.Turns.{enough-again, asking-left, calling-left, calling-again}
