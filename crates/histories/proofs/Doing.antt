@@ -269,19 +269,22 @@ module _ (marks work : List ℕ) (l : Lent) (wf : well_formed l ≡ true) (g : W
     by-roots (ok xs) r = found xs r
     by-roots (refused n) r = stays (λ z. roots-refused g out (view l) n r (sym (ap (λ (x : Answer). x.number) (roots-told ∙ ap (answered length nothing) r)) ∙ z))
 
-  does-wanted : let cs : List Step = whether (admitted (wanting_tests g marks work l)) (λ why. turned (number_of why) ∷ []) (wanted_steps g out (view l)) in
+  -- what its steps come to, by what the tests found
+  abbrev Does_so : Entry → Type 0
+  Does_so e =
+      let cs : List Step = whether e (λ why. turned (number_of why) ∷ []) (wanted_steps g out (view l)) in
       DoesBy l (wanted_call g marks work l out) cs (first_told (slot_count l) (pool_size l) cs (view l))
-  does-wanted = go (admitted (wanting_tests g marks work l)) refl
-    where
-      Does_so : Entry → Type 0
-      Does_so e = let cs : List Step = whether e (λ why. turned (number_of why) ∷ []) (wanted_steps g out (view l)) in DoesBy l (wanted_call g marks work l out) cs (first_told (slot_count l) (pool_size l) cs (view l))
 
-      go : (e : Entry) → admitted (wanting_tests g marks work l) ≡ e → Does_so (admitted (wanting_tests g marks work l))
-      go (Ok _) i = subst Does_so (sym i) (unfold doing in record { leaves = by-roots i (roots_in g out (view l)) refl; tells = roots-told i ∙ numbers-counted (roots_in g out (view l)) })
-      go (Err why) i =
-          let a : (roots_call g marks work l out).answer ≡ refused_by (number_of why) =
-          ap (λ (r : Reply). r.answer) (asking-not length nothing (marks ∷ work ∷ []) (wanting_tests g marks work l) l (root_handles (wanting_table g) g.pins g.wanted (length out)) i) in
-          subst Does_so (sym i) (unfold doing in record { leaves = stays (λ z. never-0 why (sym (ap (λ (x : Answer). x.number) a) ∙ z)); tells = a })
+  wanted-by : (e : Entry) → admitted (wanting_tests g marks work l) ≡ e → Does_so e
+  unfolding doing
+  wanted-by (Ok _) i = record { leaves = by-roots i (roots_in g out (view l)) refl; tells = roots-told i ∙ numbers-counted (roots_in g out (view l)) }
+  wanted-by (Err why) i =
+      let a : (roots_call g marks work l out).answer ≡ refused_by (number_of why) =
+      ap (λ (r : Reply). r.answer) (asking-not length nothing (marks ∷ work ∷ []) (wanting_tests g marks work l) l (root_handles (wanting_table g) g.pins g.wanted (length out)) i) in
+      record { leaves = stays (λ z. never-0 why (sym (ap (λ (x : Answer). x.number) a) ∙ z)); tells = a }
+
+  does-wanted : Does_so (admitted (wanting_tests g marks work l))
+  does-wanted = wanted-by (admitted (wanting_tests g marks work l)) refl
 
 -- ---- every call
 

@@ -1,6 +1,6 @@
 // A page's calls in turn: length and page, heap and page and heap, page and heap and page.
 
-ghost use Rattle.std.specs.Prelude.{◌≡◌, Bool, leb, take};
+ghost use Rattle.std.specs.Prelude.{◌≡◌, Bool, take};
 ghost use Rattle.heap.specs.Lent.{lent, view};
 ghost use Rattle.pages.specs.Form.{written};
 ghost use Rattle.pages.specs.Page.{page_text};
