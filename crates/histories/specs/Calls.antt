@@ -1,6 +1,6 @@
--- Every public call on a heap in lent memory, with what its host gives it; what its contract says that it
--- answers and leaves; and the steps that it comes to. `new` and `read_page` make or load a heap and stand
--- before a history, not in it.
+-- Every public call on a heap in lent memory, with what its host gives it; what its contract says
+-- that it answers and leaves; and the steps that it comes to. `new` and `read_page` make or load a
+-- heap and stand before a history, not in it.
 use Rattle.std.specs.Prelude.{List, [], ◌∷◌, ◌++◌, ℕ, length}
 use Rattle.std.proofs.Math.Option.{Option, none, some}
 use Rattle.word.specs.Result.{Result, ok, refused}
@@ -34,9 +34,10 @@ pub record Scratch : Type 0 where
 abbrev pub lending : (marks work : List ℕ) → Scratch
 lending marks work = record { marks = marks; work = work; rows = []; room = [] }
 
--- Each call with its arguments. `alloc` is `alloc_from` with start 0. `question` is each call that is lent a
--- heap to read: the scratch that it is lent, what it tests first, and what it asks of the heap. `same` and
--- `order` are lent a second heap: scratch and tests are then of both (specs/Questions.antt).
+-- Each call with its arguments. `alloc` is `alloc_from` with start 0. `question` is each call that
+-- is lent a heap to read: the scratch that it is lent, what it tests first, and what it asks of the
+-- heap. `same` and `order` are lent a second heap: scratch and tests are then of both
+-- (specs/Questions.antt).
 pub data Call : Type 0 where
   alloc_from : (kind type start : ℕ) (bytes : List ℕ) → Call
   reissue : (i grown : ℕ) → Call
@@ -56,7 +57,8 @@ pub data Call : Type 0 where
 abbrev pub leaving : Lent → Reply → Outcome
 leaving l r = outcome_of r.answer l r.scratch
 
--- what a call on the lent memory l answers and leaves: each line is what the call's contract is an equation with
+-- what a call on the lent memory l answers and leaves: each line is what the call's contract is an
+-- equation with
 abbrev pub contract : Scratch → Call → Lent → Outcome
 contract s (alloc_from kind type start bytes) l = heap_call here nothing s.marks s.work l (allocating (slot_count l) (pool_size l) kind type start bytes)
 contract s (reissue i grown) l = heap_call here nothing s.marks s.work l (λ h. reissued h i grown)
@@ -94,7 +96,8 @@ tests_of s (question scratch tests answer) l = tests
 abbrev pub turned : ℕ → Step
 turned n = ask (λ h. refused n)
 
--- the joined collection is a collection from the frame's handles and the values of the root registers, with the pins in effect; 13 where the frame map can't be traced
+-- the joined collection is a collection from the frame's handles and the values of the root
+-- registers, with the pins in effect; 13 where the frame map can't be traced
 abbrev pub joined_roots : Asked → (handles : List ℕ) → List ℕ
 joined_roots a handles = handles ++ values_of a.values (root_registers (function a.code) a.pc)
 

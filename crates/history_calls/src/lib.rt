@@ -1,7 +1,8 @@
-// The calls that a history is of (crate `histories`), made: each function does no more than make a public call.
-// Its contract is the public call's own, said by `contract` of crates/histories/specs/Calls.antt: so it is the
-// public calls that the theorems on histories speak of. Questions are apart, as `QuestionsAreCalls` joins them;
-// but `same` and `order` are here, which are lent two heaps.
+// The calls that a history is of (crate `histories`), made: each function does no more than make a
+// public call. Its contract is the public call's own, said by `contract` of
+// crates/histories/specs/Calls.antt: so it is the public calls that the theorems on histories speak
+// of. Questions are apart, as `QuestionsAreCalls` joins them; but `same` and `order` are here,
+// which are lent two heaps.
 #![tactic(auto)]
 
 ghost use Rattle.std.specs.Prelude.{◌≡◌, [], ◌∷◌};
