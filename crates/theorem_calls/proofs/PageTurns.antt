@@ -28,7 +28,7 @@ use Rattle.theorems.specs.PageHeapPage.{TextRead}
 use Rattle.theorems.proofs.PageHeapPage.{kept, read-written}
 use Rattle.theorems.proofs.PageReading.{reads-few}
 use Rattle.theorems.proofs.PageWriting.{no-scratch, not-formed, is-ready, refused-by, fits-answer, short-answer}
-use Rattle.theorem_calls.specs.Columns.{planes_met}
+use Rattle.theorem_calls.specs.PageTurns.{planes_met}
 use Rattle.wanted_door.proofs.Turns.{tests-again, asking-left, asking-again}
 
 -- what the writer does with scratch that a call with the same tests left

@@ -1,13 +1,10 @@
 // A page's calls in turn: length and page, heap and page and heap, page and heap and page.
 
-ghost use Rattle.std.specs.Prelude.{◌≡◌, Bool, take};
-ghost use Rattle.heap.specs.Lent.{lent, view};
-ghost use Rattle.pages.specs.Form.{written};
-ghost use Rattle.pages.specs.Page.{page_text};
-ghost use Rattle.theorems.specs.PageCalls.{Writes, Reads, Scratch, SameSizes, Room, TookIn, WroteText};
-ghost use Rattle.theorems.specs.PageCalls.{met, unlogged_lent};
-ghost use Rattle.theorems.specs.PageLength.{Measures, TakesExactly, Alike};
-ghost use Rattle.theorem_calls.specs.Columns.{planes_met};
+ghost use Rattle.std.specs.Prelude.{take};
+ghost use Rattle.heap.specs.Lent.{lent};
+ghost use Rattle.theorems.specs.PageCalls.{Writes, Reads};
+ghost use Rattle.theorems.specs.PageLength.{Measures};
+ghost use Rattle.theorem_calls.specs.PageTurns.{planes_met, LengthThenPage, PageThenHeap, HeapThenPage};
 
 use door::Done;
 use heap::Heap;
@@ -29,11 +26,8 @@ pub fn length_then_write(
         marks.old work.old result.0 marks.new work.new }
     ensures writes { Writes (lent heap narrow.now wide.now pool.now) planar
         out.old marks.old work.old result.1 out.new marks.new work.new }
-    ensures exactly { result.0.number ≡ 0
-        → TakesExactly result.0.first
-        (page_text (written planar) (view (lent heap narrow.now wide.now pool.now)))
-        out.old result.1 out.new }
-    ensures alike { Alike result.0 result.1 }
+    ensures exactly { LengthThenPage (lent heap narrow.now wide.now pool.now) planar
+        out.old result.0 result.1 out.new }
 {
     let size = page_door::yexwalu_page_length(heap, narrow, wide, pool, planar, marks, work);
     let page = page_door::yexwalu_write_page(heap, narrow, wide, pool, planar, out, marks, work);
@@ -64,22 +58,10 @@ pub fn write_then_read(
         (take result.0.first out.new) other_marks.old other_work.old result.1.answer
         (lent result.1.heap other_narrow.new other_wide.new other_pool.new)
         other_marks.new other_work.new }
-    ensures took_in { result.0.number ≡ 0
-        → Scratch (lent other other_narrow.old other_wide.old other_pool.old)
-        other_marks.old other_work.old
-        → Room (view (lent heap narrow.now wide.now pool.now))
-        (lent other other_narrow.old other_wide.old other_pool.old)
-        → TookIn (written planar) (view (lent heap narrow.now wide.now pool.now))
-        (lent other other_narrow.old other_wide.old other_pool.old) result.1.answer
+    ensures same_heap { PageThenHeap (lent heap narrow.now wide.now pool.now)
+        (lent other other_narrow.old other_wide.old other_pool.old) planar result.0
+        other_marks.old other_work.old result.1.answer
         (lent result.1.heap other_narrow.new other_wide.new other_pool.new) }
-    ensures same { result.0.number ≡ 0
-        → Scratch (lent other other_narrow.old other_wide.old other_pool.old)
-        other_marks.old other_work.old
-        → SameSizes (lent heap narrow.now wide.now pool.now)
-        (lent other other_narrow.old other_wide.old other_pool.old)
-        → (result.1.answer ≡ met (written planar))
-        × (lent result.1.heap other_narrow.new other_wide.new other_pool.new
-        ≡ unlogged_lent (lent heap narrow.now wide.now pool.now)) }
 {
     widths::words(heap, narrow, wide, pool);
     let page = page_door::yexwalu_write_page(heap, narrow, wide, pool, planar, out, marks, work);
@@ -114,8 +96,7 @@ pub fn read_then_write(
     ensures writes { Writes (lent result.0.heap narrow.new wide.new pool.new)
         (planes_met result.0.answer)
         out.old marks.old work.old result.1 out.new marks.new work.new }
-    ensures same_page { (planar : Bool) → result.0.answer ≡ met (written planar)
-        → WroteText text.now out.old result.1 out.new }
+    ensures same_page { HeapThenPage text.now out.old result.0.answer result.1 out.new }
 {
     let back = page_door::yexwalu_read_page(heap, narrow, wide, pool, text, marks, work);
     let planar = back.answer.second >= 2;

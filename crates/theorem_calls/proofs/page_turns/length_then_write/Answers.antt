@@ -14,11 +14,7 @@ returns-clause-writes c =
     c.yexwalu_page_length-size.auto.marks c.yexwalu_page_length-size.auto.work
 
 pub returns-clause-exactly : goal.returns-clause-exactly
-returns-clause-exactly c = length-exact _ _ _ _ _ _
-    (both (record { told = c.yexwalu_page_length-size.ensures }) (record { told = c.yexwalu_write_page-page.ensures.work_after; page = c.yexwalu_write_page-page.ensures.out_after })
-    c.yexwalu_page_length-size.auto.marks c.yexwalu_page_length-size.auto.work)
-
-pub returns-clause-alike : goal.returns-clause-alike
-returns-clause-alike c = refused-alike _ _ _ _ _ _
-    (both (record { told = c.yexwalu_page_length-size.ensures }) (record { told = c.yexwalu_write_page-page.ensures.work_after; page = c.yexwalu_write_page-page.ensures.out_after })
-    c.yexwalu_page_length-size.auto.marks c.yexwalu_page_length-size.auto.work)
+returns-clause-exactly c =
+    let t = (both (record { told = c.yexwalu_page_length-size.ensures }) (record { told = c.yexwalu_write_page-page.ensures.work_after; page = c.yexwalu_write_page-page.ensures.out_after })
+    c.yexwalu_page_length-size.auto.marks c.yexwalu_page_length-size.auto.work) in
+    record { exactly = length-exact _ _ _ _ _ _ t; alike = refused-alike _ _ _ _ _ _ t }

@@ -15,6 +15,8 @@ returns-clause-writes c =
     c.yexwalu_read_page-back.auto.marks c.yexwalu_read_page-back.auto.work (ap (λ (n : ℕ). n / 6) c.yexwalu_read_page-back.auto.narrow)
 
 pub returns-clause-same_page : goal.returns-clause-same_page
-returns-clause-same_page c =
-    same-page (record { told = c.yexwalu_read_page-back.ensures }) (record { told = c.yexwalu_write_page-page.ensures.work_after; page = c.yexwalu_write_page-page.ensures.out_after })
-    (ap (λ (n : ℕ). n / 6) c.yexwalu_read_page-back.auto.narrow) c.yexwalu_read_page-back.auto.marks c.yexwalu_read_page-back.auto.work
+returns-clause-same_page c = record {
+  same_page = same-page (record { told = c.yexwalu_read_page-back.ensures })
+      (record { told = c.yexwalu_write_page-page.ensures.work_after; page = c.yexwalu_write_page-page.ensures.out_after })
+      (ap (λ (n : ℕ). n / 6) c.yexwalu_read_page-back.auto.narrow) c.yexwalu_read_page-back.auto.marks c.yexwalu_read_page-back.auto.work;
+}

@@ -18,10 +18,10 @@ returns-clause-writes c = record { told = c.yexwalu_write_page-page.ensures.work
 pub returns-clause-reads : goal.returns-clause-reads
 returns-clause-reads c = record { told = c.yexwalu_read_page-back.ensures }
 
-pub returns-clause-took_in : goal.returns-clause-took_in
-returns-clause-took_in c = λ z s v. written_read _ _ _ _ c.words.ensures
-    (trip (record { told = c.yexwalu_write_page-page.ensures.work_after; page = c.yexwalu_write_page-page.ensures.out_after }) z s (record { told = c.yexwalu_read_page-back.ensures })) v
-
-pub returns-clause-same : goal.returns-clause-same
-returns-clause-same c = λ z s v. written-read-same _ _ _ _ c.words.ensures
-    (trip (record { told = c.yexwalu_write_page-page.ensures.work_after; page = c.yexwalu_write_page-page.ensures.out_after }) z s (record { told = c.yexwalu_read_page-back.ensures })) v
+pub returns-clause-same_heap : goal.returns-clause-same_heap
+returns-clause-same_heap c = record {
+  took_in = λ z s v. written_read _ _ _ _ c.words.ensures
+      (trip (record { told = c.yexwalu_write_page-page.ensures.work_after; page = c.yexwalu_write_page-page.ensures.out_after }) z s (record { told = c.yexwalu_read_page-back.ensures })) v;
+  same = λ z s v. written-read-same _ _ _ _ c.words.ensures
+      (trip (record { told = c.yexwalu_write_page-page.ensures.work_after; page = c.yexwalu_write_page-page.ensures.out_after }) z s (record { told = c.yexwalu_read_page-back.ensures })) v;
+}
