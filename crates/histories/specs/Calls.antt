@@ -13,6 +13,8 @@ use Rattle.door.specs.HeapCalls.{Test, admitted, whether, heap_tests, Outcome, o
 use Rattle.object_door.specs.ObjectCalls.{allocating, recycling, take_call}
 use Rattle.heap_door.specs.Sealing.{sealing}
 use Rattle.collect_door.specs.Calls.{Given, table_in, tests, collect_call, Asked, table, frame, pinning, joined_tests, joined_call}
+use Rattle.wanted_door.specs.RootsFor.{Given as Wanting, table_in as wanting_table, tests as wanting_tests, root_handles}
+use Rattle.wanted_door.specs.CollectWanted.{wanted_call}
 use Rattle.script.specs.Script.{lines}
 use Rattle.script.specs.Calls.{Call as LineCall, alloc as alloc_line, take as take_line, seal as seal_line, recycle as recycle_line}
 use Rattle.script.specs.Reading.{call_of}
@@ -47,6 +49,7 @@ pub data Call : Type 0 where
   seal : Call
   collect : Given → Call
   collect_joined : Asked → Call
+  collect_wanted : Wanting → (out : List ℕ) → Call
   run : (text : List ℕ) → Call
   question : (scratch : List (List ℕ)) (tests : List Test) (answer : State → Result Told) → Call
 
@@ -67,6 +70,7 @@ contract s (recycle pins) l = heap_call nothing nothing s.marks s.work l (recycl
 contract s seal l = heap_call nothing nothing s.marks s.work l sealing
 contract s (collect g) l = collect_call g s.marks s.work l
 contract s (collect_joined a) l = joined_call a s.marks s.work s.rows l
+contract s (collect_wanted g out) l = wanted_call g s.marks s.work l out
 contract s (run text) l = run_call s.room s.marks s.work l text
 contract s (question scratch tests answer) l = leaving l (replying (λ (t : Told). t.first) (λ (t : Told). t.second) scratch tests l answer)
 
@@ -84,6 +88,7 @@ tests_of s (recycle pins) l = heap_tests s.marks s.work l
 tests_of s seal l = heap_tests s.marks s.work l
 tests_of s (collect g) l = tests g s.marks s.work l
 tests_of s (collect_joined a) l = joined_tests a s.marks s.work s.rows l
+tests_of s (collect_wanted g out) l = wanting_tests g s.marks s.work l
 tests_of s (run text) l = run_tests s.room s.marks s.work l text
 tests_of s (question scratch tests answer) l = tests
 
@@ -102,6 +107,22 @@ joined_pins a = pins_at (function a.code) a.pc a.values (pinning a)
 abbrev pub joined_step : Asked → (handles : Option (List ℕ)) → Step
 joined_step a none = turned 13
 joined_step a (some handles) = collect_step (table a) (joined_roots a handles) (joined_pins a)
+
+-- the collection that keeps the wanted slots asks for the roots, tells how many they are, and is a
+-- collection from them; where none are found nothing is left to do
+abbrev pub roots_in : Wanting → (out : List ℕ) → State → Result (List ℕ)
+roots_in g out h = root_handles (wanting_table g) g.pins g.wanted (length out) h
+
+abbrev pub counted : Result (List ℕ) → Result Told
+counted (ok roots) = ok (record { first = length roots; second = 0 })
+counted (refused n) = refused n
+
+abbrev pub from_roots : Wanting → Result (List ℕ) → List Step
+from_roots g (ok roots) = collect_step (wanting_table g) roots g.pins ∷ []
+from_roots g (refused n) = []
+
+abbrev pub wanted_steps : Wanting → (out : List ℕ) → State → List Step
+wanted_steps g out h = ask (λ k. counted (roots_in g out k)) ∷ from_roots g (roots_in g out h)
 
 -- a line of a script: its `take` hands out no object; a line that is no call's is 17
 abbrev pub line_step : Option LineCall → Step
@@ -135,6 +156,7 @@ steps_of (recycle pins) S P h = recycle_step pins ∷ []
 steps_of seal S P h = seal_step ∷ []
 steps_of (collect g) S P h = collect_step (table_in g) g.roots g.pins ∷ []
 steps_of (collect_joined a) S P h = joined_step a (frame a) ∷ []
+steps_of (collect_wanted g out) S P h = wanted_steps g out h
 steps_of (run text) S P h = line_steps S P (lines text) h
 steps_of (question scratch tests answer) S P h = ask answer ∷ []
 

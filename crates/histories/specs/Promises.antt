@@ -16,7 +16,7 @@ use Rattle.collect_door.specs.Demand.{StartsAt}
 use Rattle.object_door.specs.Making.{new_call}
 use Rattle.histories.specs.Steps.{Step, nothing, handle, slot, object, told, doing, Value}
 use Rattle.histories.specs.History.{Books, after, issued, Distinct, Resolves, total, Lost}
-use Rattle.histories.specs.Calls.{Scratch, Call, alloc_from, reissue, edit, write, take, free, recycle, seal, collect, collect_joined, run, question, contract, tests_of, joined_roots, joined_pins, steps, Made, left, all_steps}
+use Rattle.histories.specs.Calls.{Scratch, Call, alloc_from, reissue, edit, write, take, free, recycle, seal, collect, collect_joined, collect_wanted, run, question, contract, tests_of, joined_roots, joined_pins, steps, Made, left, all_steps}
 
 -- ---- a call does its steps
 
@@ -38,7 +38,7 @@ abbrev pub ending : (S P : ℕ) → List Step → State → ℕ
 ending S P [] h = 0
 ending S P (c ∷ cs) h = ended_by (doing S P c h).answer (ending S P cs (doing S P c h).heap)
 
--- what a host is told of a call: of `run` how its lines ended, of each other call what its one step
+-- what a host is told of a call: of `run` how its lines ended, of each other call what its first step
 -- answers
 abbrev pub first_told : (S P : ℕ) → List Step → State → Answer
 first_told S P [] h = refused_by 0
@@ -55,6 +55,7 @@ said_of (recycle pins) S P cs h = first_told S P cs h
 said_of seal S P cs h = first_told S P cs h
 said_of (collect g) S P cs h = first_told S P cs h
 said_of (collect_joined a) S P cs h = first_told S P cs h
+said_of (collect_wanted g out) S P cs h = first_told S P cs h
 said_of (run text) S P cs h = refused_by (ending S P cs h)
 said_of (question scratch tests answer) S P cs h = first_told S P cs h
 
