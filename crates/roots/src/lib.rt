@@ -10,12 +10,12 @@ ghost use Rattle.code.specs.Lent.{function};
 ghost use Rattle.code.specs.Inner.Columns.{wanted, Found};
 ghost use Rattle.code.specs.Inner.Plans.{lent, planned, all_seen};
 ghost use Rattle.liveness.specs.Inner.Scratch.{cell};
-ghost use Rattle.liveness.specs.Inner.Plans.{out_row, Room};
+ghost use Rattle.liveness.specs.Inner.Plans.{walk_row, Room};
 ghost use Rattle.roots.specs.Calls.{LiveAtCall};
 
 use code::check::{check_function, rows_fit};
 use code::{Blocks, Code, Flow, Plan, Tracked};
-use liveness::fixpoint::{analyse, back_at, gather};
+use liveness::fixpoint::{analyse, back_at, copy_live_out};
 use refusal::{Refusal, Reply};
 
 // The block that holds instruction pc.
@@ -48,7 +48,7 @@ pub fn safepoint_block(plan: &Plan, pc: usize) -> Option<usize>
 pub fn live_row(s: &mut [u64], plan: &Plan, b: usize, pc: usize)
     requires nb_value { (b < plan.now.flow.blocks.count) × Room plan.now.flow s.old }
     requires b_bound { (get_or plan.now.flow.blocks.bounds.now (2 * b) 0 ≤ pc) × (pc < get_or plan.now.flow.blocks.bounds.now (2 * b + 1) 0) }
-    ensures { (length s.new ≡ length s.old) × ((q : ℕ) → q < 64 * plan.now.flow.words → cell s.new (out_row plan.now.flow) q ≡ live_before (all_seen plan.now) b pc q) }
+    ensures { (length s.new ≡ length s.old) × ((q : ℕ) → q < 64 * plan.now.flow.words → cell s.new (walk_row plan.now.flow) q ≡ live_before (all_seen plan.now) b pc q) }
 {
     let Flow {
         registers,
@@ -57,7 +57,7 @@ pub fn live_row(s: &mut [u64], plan: &Plan, b: usize, pc: usize)
         ..
     } = plan.flow;
     analyse(s, plan);
-    gather(s, &plan.flow, b);
+    copy_live_out(s, &plan.flow, b);
     let e = blocks.bounds[2 * b + 1] as usize;
     back_at(s, &registers, blocks.count * (3 * words), words, pc, e);
 }
