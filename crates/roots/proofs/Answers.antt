@@ -16,6 +16,7 @@ use Rattle.word.specs.Put.{put}
 use Rattle.word.specs.Ones.{passing}
 use Rattle.refusal.specs.Told.{answered, refused_by, here, nothing}
 use Rattle.refusal.specs.declared.Answer.{Answer}
+use Rattle.rows.proofs.Listing.{passing-most}
 use Rattle.rows.specs.Inner.Row.{bit_in, part, listed}
 use Rattle.rows.specs.Inner.Listing.{listing, listed_into}
 use Rattle.flow.specs.Function.{Function, Block, Instruction, LiveList, holds, inst, start, end, safepoint}
@@ -128,6 +129,11 @@ module _ (l : Lent) (t : ℕ → Bool) where
     -- a row of whole words has no more of them
     pub row-registers : (m : ℕ) → length l.classes ≤ m → live_row m (track t (function l)) pc ≡ registers_at l t pc
     row-registers m h = map-unique (row-live m h) registers-live
+
+  -- they are no more than the function has
+  pub registers-few : (pc : ℕ) → length (registers_at l t pc) ≤ length l.classes
+  unfolding live_row
+  registers-few pc = passing-most _ 0 (length l.classes)
 
   module _ (pc : ℕ) (regs rows : List ℕ) where
     abbrev reply : Result ℕ
