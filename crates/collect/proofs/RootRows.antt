@@ -27,7 +27,7 @@ use Rattle.code.specs.Lent.{Lent, function, right, need}
 use Rattle.code.specs.Inner.Columns.{wanted, seen, In}
 use Rattle.liveness.specs.Inner.Scratch.{cell}
 use Rattle.code.specs.Inner.Plans.{planned, all_seen}
-use Rattle.liveness.specs.Inner.Plans.{out_row}
+use Rattle.liveness.specs.Inner.Plans.{walk_row}
 use Rattle.code.specs.declared.Tracked.{Tracked}
 use Rattle.code.specs.declared.Tracked.TheVariants.{References}
 use Rattle.code.specs.declared.Plan.{Plan}
@@ -94,7 +94,7 @@ module _ (f : Lent) (pc : ℕ) (rows : List ℕ) (good : right f ≡ true) (room
 -- the same of a plan that asks for references, in rows of as few words as hold the bits
 pub plan-found : (p : Plan) → p.flow.registers.which ≡ References → p.flow.words ≡ row_words (planned p) → (pc : ℕ) (rows : List ℕ) → need (planned p) ≤ length rows
     → (b : ℕ) → b < p.flow.blocks.count → In p.flow.blocks.bounds.now b pc → safepoint (function (planned p)) pc ≡ true → (rows' : List ℕ) → length rows' ≡ length rows
-    → ((q : ℕ) → q < 64 * p.flow.words → cell rows' (out_row p.flow) q ≡ live_before (all_seen p) b pc q) → RootRow (planned p) pc rows rows' true
+    → ((q : ℕ) → q < 64 * p.flow.words → cell rows' (walk_row p.flow) q ≡ live_before (all_seen p) b pc q) → RootRow (planned p) pc rows rows' true
 plan-found p w least pc rows room b h at e rows' n c =
     look-found (planned p) pc rows p.passed room b (omega (arith, p.flow.counted)) at e rows' n
     (subst (λ (t : Tracked). (q : ℕ) → q < 64 * row_words (planned p) → cell rows' (row_start (planned p)) q

@@ -100,11 +100,18 @@ impl Heap {
     pub fn changed(mut self, i: u32) -> Heap
         ensures { result ≡ set_changed self i }
     {
+        self.log_change(i);
+        self
+    }
+
+    // The same in place, for a loop over many slots, which would copy the log for each of them.
+    pub fn log_change(&mut self, i: u32)
+        ensures { self.new ≡ set_changed self.old i }
+    {
         let e = std::num::wrapping_add_u64(self.epoch, 1);
         self.epoch = e;
         let k = (e % 16) as usize;
         self.log[k] = i;
-        self
     }
 
     // Kept: eight setters, here and below; they differ in the field, for which there is no parameter, and a chain of them reads as the steps of a call.

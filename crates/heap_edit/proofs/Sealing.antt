@@ -1,7 +1,6 @@
 -- `seal`: the run of seals is replaced by the handles of the live slots. Assumes nothing.
 use Rattle.std.proofs.Common.{◌≡◌, ℕ, ◌+◌, ◌-◌, ◌*◌, ◌/◌, ◌≤◌, true, List, ◌++◌, length, take, drop, ap, ◌∙◌, subst, arith, length-drop, length-take-le}
 use borrow.Rule.Slice.PartMut.{put_mid}
-use Rattle.word.specs.Run.{run}
 use Rattle.word.proofs.RunLaws.{lent-run, lent_below, lent-past}
 use Rattle.heap.specs.Packing.{pad}
 use Rattle.heap.specs.State.{State}

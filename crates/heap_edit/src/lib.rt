@@ -33,7 +33,10 @@ pub fn yes(b: bool) -> Reply
 pub fn resolve(view: View, x: u64) -> Reply
     ensures { told result ≡ answered here nothing (resolved (seen_state view.entry) x) }
 {
-    let i = view.resolve(x)?;
+    let resolved = view.resolve(x);
+    let Ok(i) = resolved else {
+        return Err(resolved.unwrap_err());
+    };
     Ok((i as u64, 0))
 }
 
@@ -96,7 +99,10 @@ pub fn edit(lent: &mut ViewMut, x: u64, bytes: &[u8], start: usize) -> Reply
     ensures { Replies here nothing lent.old lent.new result (edited (length lent.old.pool.now) (state lent.old) x bytes.now start) }
 {
     let view = lent.view();
-    let index = view.resolve(x)?;
+    let resolved = view.resolve(x);
+    let Ok(index) = resolved else {
+        return Err(resolved.unwrap_err());
+    };
     let i = index as usize;
     if !view.fits(i, bytes.len()) {
         return Err(Refusal::NoRoom);

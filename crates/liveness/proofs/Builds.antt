@@ -1,27 +1,23 @@
 -- The rows of one block in words that were zero, and a turn of the loop that builds those of every block. Assumes nothing.
-use mathlib.Core.Path.{◌≡◌, refl, sym, ap, ap₂, ◌∙◌, subst}
+use mathlib.Core.Path.{◌≡◌, refl, sym, ap, ap₂, ◌∙◌}
 use mathlib.Core.Logic.{inl, inr, ⊎_elim}
 use mathlib.Core.Bool.{Bool, true, false, ◌||◌, false≢true}
 use mathlib.Core.List.{List}
 use Prim.Native.Nat.{ℕ, ◌+◌, ◌-◌, ◌*◌, ◌/◌, ◌%◌, ◌≤◌, ◌<◌}
 use Rattle.word.specs.Inner.Bit.{bit}
 use Rattle.word.proofs.BitLaws.{bit-of-zero}
-use Rattle.flow.specs.Function.{first_at}
 use Rattle.flow.specs.Dataflow.{back, killed, gen, kill}
 use Rattle.word.proofs.Bools.{or_left}
-use Rattle.word.specs.Lists.{tabulate}
 use Rattle.flow.proofs.Laws.{step-sound}
-use Rattle.code.specs.View.{block_at}
 use Rattle.code.specs.Inner.Columns.{seen}
-use Rattle.liveness.specs.Inner.Scratch.{Outside, cell, live_at, one_below, Begun, Built}
+use Rattle.liveness.specs.Inner.Scratch.{Outside, cell, live_at, Begun, Built}
 use Rattle.code.proofs.Views.{start-view, end-view}
 use Rattle.liveness.proofs.Scratch.{block-fits, cell-before, cell-after, live_of, live-not, or-false}
 use native.Mathlib.Omega.{arith}
 use native.Mathlib.Numerals.{add-one}
 use native.Mathlib.Nat.{suc-mul}
 use native.Mathlib.Decide.{ℕ_discrete, dec_lt}
-use lib.ListN.{length, get_or, set, length-set}
-use lib.Seq.{get_or-set_same, get_or-set_other}
+use lib.ListN.{length, get_or}
 
 pub zero-cell : (s : List ℕ) (a q : ℕ) → ((i : ℕ) → a ≤ i → get_or s i 0 ≡ 0) → cell s a q ≡ false
 unfolding cell
@@ -52,36 +48,25 @@ module _ (t : ℕ → Bool) (ends refs bs cs : List ℕ) (nb W b : ℕ) (h : b <
         zero-cell s (b * (3 * W)) q zeros ∙ ap (λ (u : ℕ). back (seen t ks ends refs bs cs) q st u false) z ∙ sym (gen-is ks q);
     kills = λ ks q l. let z : 0 ≡ e - st = omega arith in
         zero-cell s (b * (3 * W) + W) q (λ i o. zeros i (omega arith)) ∙ ap (λ (u : ℕ). killed (seen t ks ends refs bs cs) q st u) z ∙ sym (kill-is ks q);
-    next = λ l. absurd (omega arith);
   }
 
-  pub begun-rows : (s₁ s₂ : List ℕ) (v : ℕ) → 0 < W → nb * (3 * W) ≤ length s
+  pub begun-rows : (s₁ s₂ : List ℕ)
       → Outside s s₁ (b * (3 * W)) W
       → ((ks bs' : List ℕ) (q : ℕ) → q < 64 * W → cell s₁ (b * (3 * W)) q ≡ back (seen t ks ends refs bs' cs) q st (e - st) (cell s (b * (3 * W)) q))
       → Outside s₁ s₂ (b * (3 * W) + W) W
       → ((ks bs' : List ℕ) (q : ℕ) → q < 64 * W → cell s₂ (b * (3 * W) + W) q ≡ killed (seen t ks ends refs bs' cs) q st (e - st) || cell s₁ (b * (3 * W) + W) q)
-      → first_at (tabulate nb (block_at bs)) e 0 ≡ one_below v nb
-      → Begun t ends refs bs cs s (set s₂ (b * (3 * W) + 2 * W) v) nb W b
-  begun-rows s₁ s₂ v pos fit o₁ c₁ o₂ c₂ first = record {
+      → Begun t ends refs bs cs s s₂ nb W b
+  begun-rows s₁ s₂ o₁ c₁ o₂ c₂ = record {
     frame = record {
-      kept = length-set s₂ (b * (3 * W) + 2 * W) v ∙ o₂.kept ∙ o₁.kept;
-      same = λ i l. get_or-set_other s₂ (b * (3 * W) + 2 * W) i v 0 (λ x. ⊎_elim (λ m. omega arith) (λ m. omega arith) l)
-          ∙ o₂.same i (⊎_elim (λ m. inl (omega arith)) (λ m. inr (omega arith)) l) ∙ o₁.same i (⊎_elim (λ m. inl m) (λ m. inr (omega arith)) l);
+      kept = o₂.kept ∙ o₁.kept;
+      same = λ i l. o₂.same i (⊎_elim (λ m. inl (omega arith)) (λ m. inr (omega arith)) l) ∙ o₁.same i (⊎_elim (λ m. inl m) (λ m. inr (omega arith)) l);
     };
-    lives = λ ks q l. off (b * (3 * W)) q (omega arith) l ∙ cell-before o₂ (b * (3 * W)) q W l (omega arith) ∙ c₁ ks bs q l
+    lives = λ ks q l. cell-before o₂ (b * (3 * W)) q W l (omega arith) ∙ c₁ ks bs q l
         ∙ ap (back (seen t ks ends refs bs cs) q st (e - st)) (zero-cell s (b * (3 * W)) q zeros) ∙ sym (gen-is ks q);
-    kills = λ ks q l. off (b * (3 * W) + W) q (omega arith) l ∙ c₂ ks bs q l
+    kills = λ ks q l. c₂ ks bs q l
         ∙ ap (λ (u : Bool). killed (seen t ks ends refs bs cs) q st (e - st) || u) (cell-after o₁ (b * (3 * W) + W) q (omega arith) ∙ zero-cell s (b * (3 * W) + W) q (λ i o. zeros i (omega arith)))
         ∙ or-false (killed (seen t ks ends refs bs cs) q st (e - st)) ∙ sym (kill-is ks q);
-    next = λ l. ap (λ (u : ℕ). first_at (tabulate nb (block_at bs)) u 0) (sym ee) ∙ first
-        ∙ ap (λ (u : ℕ). one_below u nb) (sym (get_or-set_same s₂ (b * (3 * W) + 2 * W) v 0 (omega (arith, o₁.kept, o₂.kept, block-fits b nb (3 * W) h))));
   }
-    where
-      set-frame : Outside s₂ (set s₂ (b * (3 * W) + 2 * W) v) (b * (3 * W) + 2 * W) W
-      set-frame = record { kept = length-set s₂ (b * (3 * W) + 2 * W) v; same = λ i l. get_or-set_other s₂ (b * (3 * W) + 2 * W) i v 0 (λ x. ⊎_elim (λ m. omega arith) (λ m. omega arith) l) }
-
-      off : (a q : ℕ) → a + W ≤ b * (3 * W) + 2 * W → q < 64 * W → cell (set s₂ (b * (3 * W) + 2 * W) v) a q ≡ cell s₂ a q
-      off a q m l = cell-before set-frame a q W l m
 
 pub record Builds (t : ℕ → Bool) (ends refs bs cs s₀ s : List ℕ) (nb W b : ℕ) : Type 0 where
   pub kept : length s ≡ length s₀
@@ -89,21 +74,21 @@ pub record Builds (t : ℕ → Bool) (ends refs bs cs s₀ s : List ℕ) (nb W b
   pub rest : (i : ℕ) → b * (3 * W) ≤ i → get_or s i 0 ≡ 0
   pub lives : (ks : List ℕ) (c q : ℕ) → c < b → q < 64 * W → cell s (c * (3 * W)) q ≡ gen (seen t ks ends refs bs cs) q c
   pub kills : (ks : List ℕ) (c q : ℕ) → c < b → q < 64 * W → cell s (c * (3 * W) + W) q ≡ kill (seen t ks ends refs bs cs) q c
-  pub nexts : (c : ℕ) → c < b → get_or bs (2 * c) 0 < get_or bs (2 * c + 1) 0 → first_at (tabulate nb (block_at bs)) (get_or bs (2 * c + 1) 0) 0 ≡ one_below (get_or s (c * (3 * W) + 2 * W) 0) nb
+  pub outs : (c q : ℕ) → c < b → q < 64 * W → cell s (c * (3 * W) + 2 * W) q ≡ false
 
 pub builds-none : (t : ℕ → Bool) (ends refs bs cs s : List ℕ) (nb W : ℕ) → ((i : ℕ) → get_or s i 0 ≡ 0) → Builds t ends refs bs cs s s nb W 0
 builds-none t ends refs bs cs s nb W z =
-    record { kept = refl; high = omega arith; rest = λ i h. z i; lives = λ ks c q h. absurd (omega arith); kills = λ ks c q h. absurd (omega arith); nexts = λ c h. absurd (omega arith) }
+    record { kept = refl; high = omega arith; rest = λ i h. z i; lives = λ ks c q h. absurd (omega arith); kills = λ ks c q h. absurd (omega arith); outs = λ c q h. absurd (omega arith) }
 
 module _ {t : ℕ → Bool} {ends refs bs cs s₀ s : List ℕ} {nb W b : ℕ} (inv : Builds t ends refs bs cs s₀ s nb W b) where
-  pub builds-on : b < nb → 0 < W → (s' : List ℕ) → Begun t ends refs bs cs s s' nb W b → Builds t ends refs bs cs s₀ s' nb W (b + 1)
-  builds-on k pos s' g = record {
+  pub builds-on : b < nb → (s' : List ℕ) → Begun t ends refs bs cs s s' nb W b → Builds t ends refs bs cs s₀ s' nb W (b + 1)
+  builds-on k s' g = record {
     kept = g.frame.kept ∙ inv.kept;
     high = omega arith;
     rest = λ i l. g.frame.same i (inr (omega (arith, next-rows b (3 * W)))) ∙ inv.rest i (omega (arith, next-rows b (3 * W)));
     lives = λ ks c q l m. go ks c q (ℕ_discrete c b) l m;
     kills = λ ks c q l m. kl ks c q (ℕ_discrete c b) l m;
-    nexts = λ c l m. nx c (ℕ_discrete c b) l m;
+    outs = λ c q l m. ou c q (ℕ_discrete c b) l m;
   }
     where
       old : (c d q : ℕ) → c < b → q < 64 * W → d ≤ 2 * W → cell s' (c * (3 * W) + d) q ≡ cell s (c * (3 * W) + d) q
@@ -117,27 +102,19 @@ module _ {t : ℕ → Bool} {ends refs bs cs s₀ s : List ℕ} {nb W b : ℕ} (
       kl ks c q (yes d) l m = rw d (g.kills ks q m)
       kl ks c q (no d) l m = old c W q (omega arith) m (omega arith) ∙ inv.kills ks c q (omega arith) m
 
-      nx : (c : ℕ) → Dec (c ≡ b) → c < b + 1 → get_or bs (2 * c) 0 < get_or bs (2 * c + 1) 0 → first_at (tabulate nb (block_at bs)) (get_or bs (2 * c + 1) 0) 0 ≡ one_below (get_or s' (c * (3 * W) + 2 * W) 0) nb
-      nx c (yes d) l m =
-          subst (λ (u : ℕ). first_at (tabulate nb (block_at bs)) (get_or bs (2 * u + 1) 0) 0 ≡ one_below (get_or s' (u * (3 * W) + 2 * W) 0) nb) (sym d)
-          (g.next (subst (λ (u : ℕ). get_or bs (2 * u) 0 < get_or bs (2 * u + 1) 0) d m))
-      nx c (no d) l m =
-          let k : c < b = omega arith in
-          inv.nexts c k m ∙ ap (λ (u : ℕ). one_below u nb) (sym (g.frame.same (c * (3 * W) + 2 * W) (inl (omega (arith, block-fits c b (3 * W) k)))))
+      ou : (c q : ℕ) → Dec (c ≡ b) → c < b + 1 → q < 64 * W → cell s' (c * (3 * W) + 2 * W) q ≡ false
+      ou c q (yes d) l m =
+          rw d (cell-after g.frame (b * (3 * W) + 2 * W) q (omega arith) ∙ zero-cell s (b * (3 * W) + 2 * W) q (λ i n. inv.rest i (omega arith)))
+      ou c q (no d) l m = old c (2 * W) q (omega arith) m (omega arith) ∙ inv.outs c q (omega arith) m
 
-  pub builds-end : nb ≤ b → 0 < W → Built t ends refs bs cs s₀ s nb W
-  builds-end h pos = record {
+  pub builds-end : nb ≤ b → Built t ends refs bs cs s₀ s nb W
+  builds-end h = record {
     kept = inv.kept;
-    linked = record {
-      wide = pos;
-      next = λ c k m. inv.nexts c (omega arith) m;
-      blank = λ q l. let e : b ≡ nb = omega (arith, inv.high) in
-          let e' = ap (λ (u : ℕ). u * (3 * W)) e in zero-cell s (nb * (3 * W) + W) q (λ i m. inv.rest i (omega (arith, e')));
-    };
     rows = λ ks. record {
       gens = λ c q k l g. live_of s W nb q c k ∙ inv.lives ks c q (omega arith) l ∙ g;
       kills = λ c q k l. inv.kills ks c q (omega arith) l;
       sound = λ q l c x. step-sound (seen t ks ends refs bs cs) q (λ u. false) (λ u y. absurd (false≢true y)) c (or_left _ _ (from ks q l c (dec_lt c nb) x));
+      outs = λ c q k l x. absurd (false≢true (sym (inv.outs c q (omega arith) l) ∙ x));
     };
   }
     where

@@ -56,8 +56,8 @@ passing-more p q b (suc n) h (suc j) l pf qt =
 
 -- ---- a step that changed anything
 
-module _ (s s' : List ℕ) (a e : ℕ) (made out kill : List ℕ) (low : a ≤ e) (high : e ≤ length s) (changed : Bool)
-    (p : Part s s' a e (λ l l'. Stepped 64 l made out kill l' changed)) where
+module _ (s s' : List ℕ) (a e : ℕ) (kill out : List ℕ) (low : a ≤ e) (high : e ≤ length s) (changed : Bool)
+    (p : Part s s' a e (λ l l'. Stepped 64 l kill out l' changed)) where
   -- every bit that was set is set
   pub stepped-keeps : (k : ℕ) → bit_in 64 s k ≡ true → bit_in 64 s' k ≡ true
   stepped-keeps k h = go (order (k / 64) a) (order (k / 64) e)

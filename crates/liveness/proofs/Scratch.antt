@@ -1,15 +1,15 @@
 -- Rows in the scratch: a turn of each loop over the words, and the frames. Assumes nothing.
-use mathlib.Core.Path.{◌≡◌, refl, sym, ap, ap₂, ◌∙◌, subst, fun_ext}
+use mathlib.Core.Path.{◌≡◌, refl, sym, ap, ap₂, ◌∙◌, subst}
 use mathlib.Core.Logic.{◌⊎◌, inl, inr, ⊎_elim}
-use mathlib.Core.Bool.{Bool, true, false, ◌&&◌, ◌||◌}
+use mathlib.Core.Bool.{Bool, true, false, ◌&&◌, ◌||◌, false≢true}
 use mathlib.Core.List.{List, [], ◌∷◌, ◌++◌}
 use Prim.Native.Nat.{ℕ, suc, ◌+◌, ◌-◌, ◌*◌, ◌/◌, ◌%◌, ◌≤◌, ◌<◌}
 use Rattle.std.specs.Prelude.{if◌then◌else◌}
 use Rattle.word.specs.Inner.Bit.{bit}
-use Rattle.word.proofs.BitLaws.{bit-or, bit-of-zero}
+use Rattle.word.proofs.BitLaws.{bit-or}
 use Rattle.word.specs.Lists.{tabulate}
 use Rattle.word.proofs.ListLaws.{length-tabulate, get_d_tabulate}
-use Rattle.word.proofs.Bools.{both-and}
+use Rattle.word.proofs.Bools.{both-and, or_cases, or_left, or_right}
 use Rattle.rows.specs.Inner.Row.{bit_in}
 use Rattle.rows.proofs.RowLaws.{or_swap as or_comm}
 use Rattle.flow.specs.Function.{Function, Instruction, Block, inst, start, end, existing, first_at, exits, successors}
@@ -24,39 +24,43 @@ use native.Mathlib.Numerals.{add-one}
 use native.Mathlib.Decide.{ℕ_discrete, dec_lt}
 use native.Mathlib.Nat.{mul-le-mul_right, suc-mul}
 use borrow.Rule.Slice.PartMut.{put_mid, post_of, same_len_mid}
-use lib.ListN.{length, get_or, set, replicate, drop, take, get_or-replicate, get_or-append, get_or-eq_default, length-set, length-drop, length-replicate, drop_of_length-le}
+use lib.ListN.{length, get_or, set, drop, take, get_or-append, length-set, length-drop, drop_of_length-le}
 use lib.Seq.{slice, slice-cons, slice_empty, get_or-set_same, get_or-set_other, get_or-take, get_or-drop, get_or-append-add, length-take-le, drop-cons}
 use lib.Dec.{eqb, ltb, leb}
 use lib.Bits.{bit_or}
 use borrow.Author.Tests.{eq-eqb, ne_eqb, lt-ltb, le-ltb, le-leb, lt-leb}
 
--- ---- joining rows
+-- ---- a row made from another one, word by word: joined to it, or copied
 
-pub record Joins (s₀ s : List ℕ) (dst src words w : ℕ) : Type 0 where
+pub record Made (op : ℕ → ℕ → ℕ) (s₀ s : List ℕ) (dst src words w : ℕ) : Type 0 where
   pub kept : length s ≡ length s₀
   pub high : w ≤ words
-  pub new : (v : ℕ) → v < w → get_or s (dst + v) 0 ≡ bit_or (get_or s₀ (dst + v) 0) (get_or s₀ (src + v) 0)
+  pub new : (v : ℕ) → v < w → get_or s (dst + v) 0 ≡ op (get_or s₀ (dst + v) 0) (get_or s₀ (src + v) 0)
   pub same : (i : ℕ) → (i < dst) ⊎ (dst + w ≤ i) → get_or s i 0 ≡ get_or s₀ i 0
 
-pub joins-none : (s : List ℕ) (dst src words : ℕ) → Joins s s dst src words 0
-joins-none s dst src words = record { kept = refl; high = omega arith; new = λ v h. absurd (omega arith); same = λ i h. refl }
+-- the word of the other row
+abbrev pub other : ℕ → ℕ → ℕ
+other x y = y
 
-module _ {s₀ s : List ℕ} {dst src words w : ℕ} where
-  pub joins-on : Joins s₀ s dst src words w → w < words → src + words ≤ dst → dst + words ≤ length s₀
-      → Joins s₀ (set s (dst + w) (bit_or (get_or s (dst + w) 0) (get_or s (src + w) 0))) dst src words (w + 1)
-  joins-on inv h d l =
+pub made-none : (op : ℕ → ℕ → ℕ) (s : List ℕ) (dst src words : ℕ) → Made op s s dst src words 0
+made-none op s dst src words = record { kept = refl; high = omega arith; new = λ v h. absurd (omega arith); same = λ i h. refl }
+
+module _ {op : ℕ → ℕ → ℕ} {s₀ s : List ℕ} {dst src words w : ℕ} where
+  pub made-on : Made op s₀ s dst src words w → w < words → (src + words ≤ dst) ⊎ (dst + words ≤ src) → dst + words ≤ length s₀
+      → Made op s₀ (set s (dst + w) (op (get_or s (dst + w) 0) (get_or s (src + w) 0))) dst src words (w + 1)
+  made-on inv h d l =
       record { kept = length-set s (dst + w) _ ∙ inv.kept; high = omega arith; new = new'; same = same' }
     where
       x : ℕ
-      x = bit_or (get_or s (dst + w) 0) (get_or s (src + w) 0)
+      x = op (get_or s (dst + w) 0) (get_or s (src + w) 0)
 
-      at : x ≡ bit_or (get_or s₀ (dst + w) 0) (get_or s₀ (src + w) 0)
-      at = ap₂ bit_or (inv.same (dst + w) (inr (omega arith))) (inv.same (src + w) (inl (omega arith)))
+      at : x ≡ op (get_or s₀ (dst + w) 0) (get_or s₀ (src + w) 0)
+      at = ap₂ op (inv.same (dst + w) (inr (omega arith))) (inv.same (src + w) (⊎_elim (λ k. inl (omega arith)) (λ k. inr (omega arith)) d))
 
-      new' : (v : ℕ) → v < w + 1 → get_or (set s (dst + w) x) (dst + v) 0 ≡ bit_or (get_or s₀ (dst + v) 0) (get_or s₀ (src + v) 0)
+      new' : (v : ℕ) → v < w + 1 → get_or (set s (dst + w) x) (dst + v) 0 ≡ op (get_or s₀ (dst + v) 0) (get_or s₀ (src + v) 0)
       new' v k = go (ℕ_discrete v w)
         where
-          go : Dec (v ≡ w) → get_or (set s (dst + w) x) (dst + v) 0 ≡ bit_or (get_or s₀ (dst + v) 0) (get_or s₀ (src + v) 0)
+          go : Dec (v ≡ w) → get_or (set s (dst + w) x) (dst + v) 0 ≡ op (get_or s₀ (dst + v) 0) (get_or s₀ (src + v) 0)
           go (yes e) = rw e (get_or-set_same s (dst + w) x 0 (omega (arith, inv.kept)) ∙ at)
           go (no e) = get_or-set_other s (dst + w) (dst + v) x 0 (λ p. e (omega arith)) ∙ inv.new v (omega arith)
 
@@ -64,15 +68,20 @@ module _ {s₀ s : List ℕ} {dst src words w : ℕ} where
       same' i (inl k) = get_or-set_other s (dst + w) i x 0 (λ p. omega arith) ∙ inv.same i (inl k)
       same' i (inr k) = get_or-set_other s (dst + w) i x 0 (λ p. omega arith) ∙ inv.same i (inr (omega arith))
 
-  pub joins-frame : Joins s₀ s dst src words w → words ≤ w → Outside s₀ s dst words
-  joins-frame inv h = record { kept = inv.kept; same = λ i k. inv.same i (⊎_elim (λ a. inl a) (λ a. inr (omega arith)) k) }
+  pub made-frame : Made op s₀ s dst src words w → words ≤ w → Outside s₀ s dst words
+  made-frame inv h = record { kept = inv.kept; same = λ i k. inv.same i (⊎_elim (λ a. inl a) (λ a. inr (omega arith)) k) }
 
-  pub joins-cells : Joins s₀ s dst src words w → words ≤ w → (q : ℕ) → q < 64 * words → cell s dst q ≡ cell s₀ src q || cell s₀ dst q
+module _ {s₀ s : List ℕ} {dst src words w : ℕ} where
+  pub joins-cells : Made bit_or s₀ s dst src words w → words ≤ w → (q : ℕ) → q < 64 * words → cell s dst q ≡ cell s₀ src q || cell s₀ dst q
   unfolding cell
   joins-cells inv h q k =
       ap (λ (x : ℕ). bit x (q % 64)) (inv.new (q / 64) (omega arith))
       ∙ bit-or (get_or s₀ (dst + q / 64) 0) (get_or s₀ (src + q / 64) 0) (q % 64)
       ∙ or_comm (bit (get_or s₀ (dst + q / 64) 0) (q % 64)) (bit (get_or s₀ (src + q / 64) 0) (q % 64))
+
+  pub copied-cells : Made other s₀ s dst src words w → words ≤ w → (q : ℕ) → q < 64 * words → cell s dst q ≡ cell s₀ src q
+  unfolding cell
+  copied-cells inv h q k = ap (λ (x : ℕ). bit x (q % 64)) (inv.new (q / 64) (omega arith))
 
 -- ---- frames
 
@@ -91,9 +100,29 @@ pub cell-after : {s s' : List ℕ} {a w : ℕ} → Outside s s' a w → (b q : �
 unfolding cell
 cell-after o b q k = ap (λ (x : ℕ). bit x (q % 64)) (o.same (b + q / 64) (inr (omega arith)))
 
+-- a row that shares no word with those that changed
+pub cell-apart : {s s' : List ℕ} {a w : ℕ} → Outside s s' a w → (b q W : ℕ) → q < 64 * W → (b + W ≤ a) ⊎ (a + w ≤ b) → cell s' b q ≡ cell s b q
+cell-apart o b q W h d = ⊎_elim (cell-before o b q W h) (cell-after o b q) d
+
 -- the rows of block b lie below those of nb blocks
 pub block-fits : (b nb S : ℕ) → b < nb → b * S + S ≤ nb * S
 block-fits b nb S h = subst (λ (x : ℕ). x ≤ nb * S) (suc-mul b S) (mul-le-mul_right S h)
+
+-- the rows of two blocks
+pub blocks-apart : (t b S : ℕ) → (t ≡ b → ⊥) → (t * S + S ≤ b * S) ⊎ (b * S + S ≤ t * S)
+blocks-apart t b S ne = go (dec_lt t b)
+  where
+    go : Dec (t < b) → (t * S + S ≤ b * S) ⊎ (b * S + S ≤ t * S)
+    go (yes h) = inl (block-fits t b S h)
+    go (no h) = inr (block-fits b t S (omega arith))
+
+-- the live-in row of a block and the live-out row of any block share no word
+pub in-out-apart : (t b W : ℕ) → (t * (3 * W) + W ≤ b * (3 * W) + 2 * W) ⊎ (b * (3 * W) + 2 * W + W ≤ t * (3 * W))
+in-out-apart t b W = go (dec_lt b t)
+  where
+    go : Dec (b < t) → (t * (3 * W) + W ≤ b * (3 * W) + 2 * W) ⊎ (b * (3 * W) + 2 * W + W ≤ t * (3 * W))
+    go (yes h) = inr (omega (arith, block-fits b t (3 * W) h))
+    go (no h) = let k : t ≤ b = omega arith in let l : t * (3 * W) ≤ b * (3 * W) = mul-le-mul_right (3 * W) k in inl (omega arith)
 
 -- ---- the target blocks of an instruction
 
@@ -117,21 +146,21 @@ or_swap true false c = refl
 or_swap false true c = refl
 or_swap false false c = refl
 
-pub record Targets (refs : List ℕ) (to nb W : ℕ) (s₀ s : List ℕ) (i₀ i : ℕ) : Type 0 where
+pub record Targets (refs : List ℕ) (to nb W b : ℕ) (s₀ s : List ℕ) (i₀ i : ℕ) : Type 0 where
   pub low : i₀ ≤ i
   pub high : i ≤ to
-  pub frame : Outside s₀ s (nb * (3 * W)) W
-  pub cells : (q : ℕ) → q < 64 * W → list_any (live_at s₀ W nb q) (existing nb (slice i to refs)) || cell s (nb * (3 * W)) q
-      ≡ list_any (live_at s₀ W nb q) (existing nb (slice i₀ to refs)) || cell s₀ (nb * (3 * W)) q
+  pub frame : Outside s₀ s (b * (3 * W) + 2 * W) W
+  pub cells : (q : ℕ) → q < 64 * W → list_any (live_at s₀ W nb q) (existing nb (slice i to refs)) || cell s (b * (3 * W) + 2 * W) q
+      ≡ list_any (live_at s₀ W nb q) (existing nb (slice i₀ to refs)) || cell s₀ (b * (3 * W) + 2 * W) q
 
-pub targets-none : (refs : List ℕ) (to nb W : ℕ) (s : List ℕ) (i : ℕ) → i ≤ to → Targets refs to nb W s s i i
-targets-none refs to nb W s i h = record { low = omega arith; high = h; frame = outside_refl s (nb * (3 * W)) W; cells = λ q k. refl }
+pub targets-none : (refs : List ℕ) (to nb W b : ℕ) (s : List ℕ) (i : ℕ) → i ≤ to → Targets refs to nb W b s s i i
+targets-none refs to nb W b s i h = record { low = omega arith; high = h; frame = outside_refl s (b * (3 * W) + 2 * W) W; cells = λ q k. refl }
 
-module _ {refs : List ℕ} {to nb W : ℕ} {s₀ s : List ℕ} {i₀ i : ℕ} where
-  pub targets-on : Targets refs to nb W s₀ s i₀ i → (s' : List ℕ) (t : ℕ) → i < to → to ≤ length refs → t ≡ get_or refs i 0 → t < nb
-      → Outside s s' (nb * (3 * W)) W → ((q : ℕ) → q < 64 * W → cell s' (nb * (3 * W)) q ≡ cell s (t * (3 * W)) q || cell s (nb * (3 * W)) q)
-      → Targets refs to nb W s₀ s' i₀ (i + 1)
-  targets-on inv s' t h l e k o b =
+module _ {refs : List ℕ} {to nb W b : ℕ} {s₀ s : List ℕ} {i₀ i : ℕ} where
+  pub targets-on : Targets refs to nb W b s₀ s i₀ i → (s' : List ℕ) (t : ℕ) → i < to → to ≤ length refs → t ≡ get_or refs i 0 → t < nb
+      → Outside s s' (b * (3 * W) + 2 * W) W → ((q : ℕ) → q < 64 * W → cell s' (b * (3 * W) + 2 * W) q ≡ cell s (t * (3 * W)) q || cell s (b * (3 * W) + 2 * W) q)
+      → Targets refs to nb W b s₀ s' i₀ (i + 1)
+  targets-on inv s' t h l e k o c =
       record {
         low = omega arith;
         high = omega arith;
@@ -140,19 +169,19 @@ module _ {refs : List ℕ} {to nb W : ℕ} {s₀ s : List ℕ} {i₀ i : ℕ} wh
             (let X : ℕ → Bool = live_at s₀ W nb q in
             let rest : List ℕ = existing nb (slice (i + 1) to refs) in
             let x : cell s (t * (3 * W)) q ≡ X t =
-            cell-before inv.frame (t * (3 * W)) q W m (omega (arith, block-fits t nb (3 * W) k)) ∙ sym (live_of s₀ W nb q t k) in
+            cell-apart inv.frame (t * (3 * W)) q W m (in-out-apart t b W) ∙ sym (live_of s₀ W nb q t k) in
             let y : existing nb (slice i to refs) ≡ t ∷ rest =
             existing-next refs nb i to h l ∙ ap (λ (u : ℕ). if◌then◌else◌ (ltb u nb) (u ∷ rest) rest) (sym e) ∙ ap (λ (u : Bool). if◌then◌else◌ u (t ∷ rest) rest) (lt-ltb t nb k) in
-            ap (λ (u : Bool). list_any X rest || u) (b q m ∙ ap (λ (u : Bool). u || cell s (nb * (3 * W)) q) x)
-            ∙ or_swap (list_any X rest) (X t) (cell s (nb * (3 * W)) q)
-            ∙ ap (λ (u : List ℕ). list_any X u || cell s (nb * (3 * W)) q) (sym y)
+            ap (λ (u : Bool). list_any X rest || u) (c q m ∙ ap (λ (u : Bool). u || cell s (b * (3 * W) + 2 * W) q) x)
+            ∙ or_swap (list_any X rest) (X t) (cell s (b * (3 * W) + 2 * W) q)
+            ∙ ap (λ (u : List ℕ). list_any X u || cell s (b * (3 * W) + 2 * W) q) (sym y)
             ∙ inv.cells q m);
       }
 
-  pub targets-skip : Targets refs to nb W s₀ s i₀ i → (s' : List ℕ) (t : ℕ) → i < to → to ≤ length refs → t ≡ get_or refs i 0 → nb ≤ t
-      → s' ≡ s → Targets refs to nb W s₀ s' i₀ (i + 1)
+  pub targets-skip : Targets refs to nb W b s₀ s i₀ i → (s' : List ℕ) (t : ℕ) → i < to → to ≤ length refs → t ≡ get_or refs i 0 → nb ≤ t
+      → s' ≡ s → Targets refs to nb W b s₀ s' i₀ (i + 1)
   targets-skip inv s' t h l e k r =
-      subst (λ (z : List ℕ). Targets refs to nb W s₀ z i₀ (i + 1)) (sym r)
+      subst (λ (z : List ℕ). Targets refs to nb W b s₀ z i₀ (i + 1)) (sym r)
       (record {
         low = omega arith;
         high = omega arith;
@@ -161,14 +190,14 @@ module _ {refs : List ℕ} {to nb W : ℕ} {s₀ s : List ℕ} {i₀ i : ℕ} wh
             (let rest : List ℕ = existing nb (slice (i + 1) to refs) in
             let y : existing nb (slice i to refs) ≡ rest =
             existing-next refs nb i to h l ∙ ap (λ (u : ℕ). if◌then◌else◌ (ltb u nb) (u ∷ rest) rest) (sym e) ∙ ap (λ (u : Bool). if◌then◌else◌ u (t ∷ rest) rest) (le-ltb t nb k) in
-            ap (λ (u : List ℕ). list_any (live_at s₀ W nb q) u || cell s (nb * (3 * W)) q) (sym y) ∙ inv.cells q m);
+            ap (λ (u : List ℕ). list_any (live_at s₀ W nb q) u || cell s (b * (3 * W) + 2 * W) q) (sym y) ∙ inv.cells q m);
       })
 
-  pub targets-end : Targets refs to nb W s₀ s i₀ i → to ≤ i → (q : ℕ) → q < 64 * W
-      → cell s (nb * (3 * W)) q ≡ list_any (live_at s₀ W nb q) (existing nb (slice i₀ to refs)) || cell s₀ (nb * (3 * W)) q
+  pub targets-end : Targets refs to nb W b s₀ s i₀ i → to ≤ i → (q : ℕ) → q < 64 * W
+      → cell s (b * (3 * W) + 2 * W) q ≡ list_any (live_at s₀ W nb q) (existing nb (slice i₀ to refs)) || cell s₀ (b * (3 * W) + 2 * W) q
   targets-end inv h q m =
       let e : i ≡ to = omega (arith, inv.high) in
-      sym (ap (λ (u : List ℕ). list_any (live_at s₀ W nb q) (existing nb u) || cell s (nb * (3 * W)) q) (ap (λ (u : ℕ). slice u to refs) e ∙ slice_empty to refs))
+      sym (ap (λ (u : List ℕ). list_any (live_at s₀ W nb q) (existing nb u) || cell s (b * (3 * W) + 2 * W) q) (ap (λ (u : ℕ). slice u to refs) e ∙ slice_empty to refs))
       ∙ inv.cells q m
 
 pub and-left-false : (a b : Bool) → a ≡ false → a && b ≡ false
@@ -266,14 +295,6 @@ mid-bit a W xs q h =
 pub mid-length : (a W : ℕ) (xs : List ℕ) → a + W ≤ length xs → length (take ((a + W) - a) (drop a xs)) ≡ W
 mid-length a W xs h = length-take-le ((a + W) - a) (drop a xs) (omega (arith, length-drop a xs)) ∙ omega arith
 
-pub zero_bit : (n q : ℕ) → bit_in 64 (replicate n 0) q ≡ false
-unfolding bit_in
-zero_bit n q = ap (λ (x : ℕ). bit x (q % 64)) (go (dec_lt (q / 64) n)) ∙ bit-of-zero (q % 64)
-  where
-    go : Dec (q / 64 < n) → ◌≡◌ {A = ℕ} (get_or (replicate n 0) (q / 64) 0) 0
-    go (yes h) = get_or-replicate n (q / 64) 0 0 h
-    go (no h) = get_or-eq_default (replicate n 0) 0 (omega (arith, length-replicate {A = ℕ} n 0))
-
 -- ---- the successors of a block, by the tests of the code
 
 cut : (b : Bool) (x y : List ℕ) → b ≡ false → if◌then◌else◌ b x y ≡ y
@@ -367,17 +388,26 @@ joined-none X nb t h = ap (list_any X) (cut (ltb t nb) (t ∷ []) [] (le-ltb t n
 
 -- ---- the live-in rows and the frames
 
-pub live-frame : {s s' : List ℕ} (nb W : ℕ) → Outside s s' (nb * (3 * W)) W → (q : ℕ) → q < 64 * W → (t : ℕ) → live_at s' W nb q t ≡ live_at s W nb q t
-live-frame {s} {s'} nb W o q h t = go (dec_lt t nb)
+-- the live-in rows stay where no word of one changed
+live-kept : {s s' : List ℕ} {a w : ℕ} (nb W : ℕ) → Outside s s' a w → ((t : ℕ) → t < nb → (t * (3 * W) + W ≤ a) ⊎ (a + w ≤ t * (3 * W)))
+    → (q : ℕ) → q < 64 * W → (t : ℕ) → live_at s' W nb q t ≡ live_at s W nb q t
+live-kept {s} {s'} nb W o d q h t = go (dec_lt t nb)
   where
     go : Dec (t < nb) → live_at s' W nb q t ≡ live_at s W nb q t
-    go (yes k) =
-        live_of s' W nb q t k ∙ cell-before o (t * (3 * W)) q W h (omega (arith, block-fits t nb (3 * W) k)) ∙ sym (live_of s W nb q t k)
+    go (yes k) = live_of s' W nb q t k ∙ cell-apart o (t * (3 * W)) q W h (d t k) ∙ sym (live_of s W nb q t k)
     go (no k) = live-not s' W nb q t (omega arith) ∙ sym (live-not s W nb q t (omega arith))
 
-pub gathered : {s s₁ : List ℕ} (s₂ : List ℕ) (nb W : ℕ) (g : Function) (b : ℕ) → Outside s s₁ (nb * (3 * W)) W
-    → (q : ℕ) → q < 64 * W → cell s₁ (nb * (3 * W)) q ≡ false
-    → cell s₂ (nb * (3 * W)) q ≡ out g (live_at s₁ W nb q) b || cell s₁ (nb * (3 * W)) q
-    → cell s₂ (nb * (3 * W)) q ≡ out g (live_at s W nb q) b
-gathered {s} {s₁} s₂ nb W g b o q h z e =
-    e ∙ ap₂ (λ (X : ℕ → Bool) (y : Bool). out g X b || y) (fun_ext (live-frame nb W o q h)) z ∙ or-false (out g (live_at s W nb q) b)
+-- where the row after the blocks' changed, and where a live-out row did
+pub live-frame : {s s' : List ℕ} (nb W : ℕ) → Outside s s' (nb * (3 * W)) W → (q : ℕ) → q < 64 * W → (t : ℕ) → live_at s' W nb q t ≡ live_at s W nb q t
+live-frame nb W o = live-kept nb W o (λ t k. inl (omega (arith, block-fits t nb (3 * W) k)))
+
+pub live-after : {s s' : List ℕ} (nb W b : ℕ) → Outside s s' (b * (3 * W) + 2 * W) W → (q : ℕ) → q < 64 * W → (t : ℕ) → live_at s' W nb q t ≡ live_at s W nb q t
+live-after nb W b o = live-kept nb W o (λ t k. in-out-apart t b W)
+
+-- more sets of blocks leave more
+any-grows : (X Y : ℕ → Bool) (l : List ℕ) → ((c : ℕ) → X c ≡ true → Y c ≡ true) → list_any X l ≡ true → list_any Y l ≡ true
+any-grows X Y [] k h = absurd (false≢true h)
+any-grows X Y (c ∷ l) k h = ⊎_elim (λ x. or_left (Y c) _ (k c x)) (λ x. or_right (Y c) _ (any-grows X Y l k x)) (or_cases (X c) _ h)
+
+pub out-grows : (f : Function) (X Y : ℕ → Bool) (b : ℕ) → ((c : ℕ) → X c ≡ true → Y c ≡ true) → out f X b ≡ true → out f Y b ≡ true
+out-grows f X Y b = any-grows X Y (successors f b)

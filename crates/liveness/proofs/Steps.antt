@@ -1,14 +1,19 @@
--- One block of a pass: the row after the blocks' has its live-out, and `rows::step_at` adds what is not killed to its live-in row. Assumes nothing.
+-- One block of a pass: its live-out row has what is live out of it, and the step adds what is not killed to its live-in row. Assumes nothing.
 use mathlib.Core.Path.{◌≡◌, refl, sym, ap, ap₂, ◌∙◌, subst}
-use mathlib.Core.Logic.{inl, ⊎_elim}
+use mathlib.Core.Logic.{◌⊎◌, inl, inr, ⊎_elim}
 use mathlib.Core.Bool.{Bool, true, false, not, ◌&&◌, ◌||◌}
 use mathlib.Core.List.{List}
 use Prim.Native.Nat.{ℕ, ◌+◌, ◌-◌, ◌*◌, ◌/◌, ◌%◌, ◌≤◌, ◌<◌}
 use Rattle.word.specs.Inner.Bit.{bit}
-use Rattle.rows.specs.Inner.Row.{bit_in, part, Part, Stepped, listed}
-use Rattle.liveness.proofs.Growth.{stepped-more}
+use Rattle.word.specs.Ones.{passing}
+use Rattle.rows.specs.Inner.Row.{bit_in, part, Part, SteppedAt, listed}
+use Rattle.rows.proofs.PartLaws.{bit_in-within}
+use Rattle.liveness.proofs.Growth.{passing-grows, stepped-more}
 use Rattle.liveness.specs.Inner.Scratch.{Outside, cell, set_bits}
+use native.Mathlib.Nat.{mod-lt}
 use native.Mathlib.Omega.{arith}
+use lib.Arith.{digits_div, digits_mod}
+use lib.Dec.{lit<}
 use native.Mathlib.Decide.{dec_lt}
 use lib.ListN.{length, get_or, take, drop, length-drop, length-take}
 use lib.Seq.{take-take, get_or-take, get_or-drop, ext_get_or}
@@ -75,31 +80,64 @@ module _ {s s' : List ℕ} {a e : ℕ} {R : List ℕ → List ℕ → Type 0} (p
         ∙ get_or-drop e s i 0 ∙ sym (get_or-take m s (e + i) 0 k) ∙ sym (get_or-drop e (take m s) i 0));
   }
 
--- what one step of `rows::step_at` ensures, said of rows in the scratch: a row of zeros is given for what is made
-pub record Met (s s' : List ℕ) (m W live out kill : ℕ) (changed : Bool) : Type 0 where
+-- what one step on a block's rows ensures, said of the rows in the scratch
+pub record Met (s s' : List ℕ) (m W live : ℕ) (changed : Bool) : Type 0 where
   pub frame : Outside s s' live W
-  pub cells : (q : ℕ) → q < 64 * W → cell s' live q ≡ cell s live q || (cell s out q && not (cell s kill q))
+  pub cells : (q : ℕ) → q < 64 * W → cell s' live q ≡ cell s live q || (cell s (live + 2 * W) q && not (cell s (live + W) q))
   pub same : changed ≡ false → s' ≡ s
   pub more : changed ≡ true → set_bits m s < set_bits m s'
 
-pub met_of : {s s' : List ℕ} (m W live made out kill : ℕ) {changed : Bool}
-    → Part s s' live (live + W) (λ l l'. Stepped 64 l (part made (made + W) s) (part out (out + W) s) (part kill (kill + W) s) l' changed)
-    → live + W ≤ m → m ≤ length s → ((q : ℕ) → q < 64 * W → cell s made q ≡ false) → Met s s' m W live out kill changed
-met_of {s} {s'} m W live made out kill {changed} p low high blank = record {
+pub met_of : {s s' : List ℕ} (m W live : ℕ) {changed : Bool} → SteppedAt W live s s' changed → live + W ≤ m → m ≤ length s → Met s s' m W live changed
+met_of {s} {s'} m W live {changed} p low high = record {
   frame = part-frame p W refl;
   cells = λ q h.
       sym (part-cell live W s' q h) ∙ p.inside.bits q
       ∙ ap₂ (λ (x y : Bool). x || y) (part-cell live W s q h)
-      (ap₂ (λ (x y : Bool). x || y) (part-cell made W s q h ∙ blank q h)
-      (ap₂ (λ (x y : Bool). x && not y) (part-cell out W s q h) (part-cell kill W s q h)));
+      (ap₂ (λ (x y : Bool). x && not y) (part-cell (live + 2 * W) W s q h) (part-cell (live + W) W s q h));
   same = λ c. part_same p (p.inside.same c);
-  more = λ c. stepped-more (take m s) (take m s') live (live + W) (part made (made + W) s) (part out (out + W) s) (part kill (kill + W) s) (omega arith)
+  more = λ c. stepped-more (take m s) (take m s') live (live + W) (part (live + W) (live + W + W) s) (part (live + 2 * W) (live + 2 * W + W) s) (omega arith)
       (omega (arith, length-take m s)) changed (part-take p m (omega arith) low) c;
 }
 
--- words from m on do not count
-pub bits-kept : {s s' : List ℕ} {a w : ℕ} (m : ℕ) → m ≤ a → Outside s s' a w → set_bits m s' ≡ set_bits m s
-bits-kept {s} {s'} m h o =
-    ap (λ (l : List ℕ). length (listed 64 l))
-    (ext_get_or 0 (take m s') (take m s) (omega (arith, length-take m s, length-take m s', o.kept))
-    (λ i k. let l : i < m = omega (arith, length-take m s') in get_or-take m s' i 0 l ∙ o.same i (inl (omega arith)) ∙ sym (get_or-take m s i 0 l)))
+-- where each bit of a row stays and no other word changes, no fewer bits are set
+pub bits-grow : {s s' : List ℕ} {a w : ℕ} (m : ℕ) → Outside s s' a w → ((q : ℕ) → q < 64 * w → cell s a q ≡ true → cell s' a q ≡ true)
+    → set_bits m s ≤ set_bits m s'
+unfolding listed bit_in cell
+bits-grow {s} {s'} {a} {w} m o grow =
+    subst (λ (n : ℕ). length (passing (bit_in 64 (take m s)) 0 (length (take m s) * 64)) ≤ length (passing (bit_in 64 (take m s')) 0 (n * 64)))
+    (omega (arith, length-take m s, length-take m s', o.kept))
+    (passing-grows (bit_in 64 (take m s)) (bit_in 64 (take m s')) 0 (length (take m s) * 64) keeps)
+  where
+    keeps : (k : ℕ) → bit_in 64 (take m s) k ≡ true → bit_in 64 (take m s') k ≡ true
+    keeps k h = word s' ∙ go (dec_lt (k / 64) a) (dec_lt (k / 64) (a + w))
+      where
+        low : k / 64 < m
+        low = let i = bit_in-within 64 (take m s) k h in omega (arith, length-take m s)
+
+        word : (l : List ℕ) → bit (get_or (take m l) (k / 64) 0) (k % 64) ≡ bit (get_or l (k / 64) 0) (k % 64)
+        word l = ap (λ (x : ℕ). bit x (k % 64)) (get_or-take m l (k / 64) 0 low)
+
+        was : bit (get_or s (k / 64) 0) (k % 64) ≡ true
+        was = sym (word s) ∙ h
+
+        outside : (k / 64 < a) ⊎ (a + w ≤ k / 64) → bit (get_or s' (k / 64) 0) (k % 64) ≡ true
+        outside d = ap (λ (x : ℕ). bit x (k % 64)) (o.same (k / 64) d) ∙ was
+
+        q : ℕ
+        q = (k / 64 - a) * 64 + k % 64
+
+        digits : (q / 64 ≡ k / 64 - a) × (q % 64 ≡ k % 64)
+        digits = (digits_div (k / 64 - a) (mod-lt k (lit< tt)), digits_mod (k / 64 - a) (mod-lt k (lit< tt)))
+
+        here : (l : List ℕ) → a ≤ k / 64 → bit (get_or l (a + q / 64) 0) (q % 64) ≡ bit (get_or l (k / 64) 0) (k % 64)
+        here l g = let e : a + q / 64 ≡ k / 64 = omega (arith, digits.0) in ap₂ (λ (x y : ℕ). bit (get_or l x 0) y) e digits.1
+
+        inside : a ≤ k / 64 → k / 64 < a + w → bit (get_or s' (k / 64) 0) (k % 64) ≡ true
+        inside g l =
+            let r : q / 64 < w = omega (arith, digits.0) in
+            sym (here s' g) ∙ grow q (omega arith) (here s g ∙ was)
+
+        go : Dec (k / 64 < a) → Dec (k / 64 < a + w) → bit (get_or s' (k / 64) 0) (k % 64) ≡ true
+        go (yes d) e = outside (inl d)
+        go (no d) (no e) = outside (inr (omega arith))
+        go (no d) (yes e) = inside (omega arith) e

@@ -44,7 +44,7 @@ impl BlockChains {
     }
 
     // The first nonempty block whose word `word` is pc, or the number of blocks.
-    // Kept: a number for none, since it goes into the scratch as it is; an Option would be turned back at once.
+    // Kept: a number for none, as the chains have it; an Option would be turned back at once.
     pub fn first_at(&self, blocks: &Blocks, word: usize, pc: usize) -> usize
         requires { (word < 2) × Chains blocks.now.bounds.now word blocks.now.count 0 self.now.heads self.now.links }
         ensures { First (Keyed blocks.now.bounds.now word pc) 0 blocks.now.count result }

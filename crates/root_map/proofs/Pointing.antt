@@ -12,17 +12,19 @@ use Rattle.flow.specs.Function.{Function, safepoint, end, reads, writes}
 use Rattle.flow.specs.Dataflow.{turn, back, out, live_in, live_before}
 use Rattle.code.specs.View.{view, formed}
 use Rattle.code.specs.Inner.Columns.{seen, Found, Separate, Inside}
-use Rattle.liveness.specs.Inner.Scratch.{cell, live_at, Outside, Fixed}
+use Rattle.liveness.specs.Inner.Scratch.{cell, Outside, Fixed}
 use Rattle.liveness.specs.Inner.Chains.{First, Keyed}
 use Rattle.code.proofs.Views.{end-view}
-use Rattle.liveness.proofs.Scratch.{outside_refl, live-frame}
-use Rattle.liveness.proofs.Passes.{linked-out}
+use Rattle.liveness.proofs.Scratch.{outside_refl, block-fits, cell-before, live-frame}
 use Rattle.roots.proofs.Answers.{live-row-cells, row_listed, row-registers, found-held, found-holder, seen-holder, is-safepoint, not-safepoint, not-held}
 use Rattle.root_map.specs.Inner.Columns.{Standing, Pointed}
 
--- the fixpoint lies before the row that is gathered
-pub fixed_out : {f : Function} {bs s s₁ : List ℕ} {W nb : ℕ} → Fixed f bs s W nb → Outside s s₁ (nb * (3 * W)) W → Fixed f bs s₁ W nb
-fixed_out {f} {bs} {s} {s₁} {W} {nb} v o = record { linked = λ h. linked-out (v.linked h) o; lives = λ b q h. live-frame nb W o q h b ∙ v.lives b q h }
+-- the fixpoint lies before the row that is walked back
+pub fixed_out : {f : Function} {s s₁ : List ℕ} {W nb : ℕ} → Fixed f s W nb → Outside s s₁ (nb * (3 * W)) W → Fixed f s₁ W nb
+fixed_out {f} {s} {s₁} {W} {nb} v o = record {
+  lives = λ b q h. live-frame nb W o q h b ∙ v.lives b q h;
+  outs = λ b q k h. cell-before o (b * (3 * W) + 2 * W) q W h (omega (arith, block-fits b nb (3 * W) k)) ∙ v.outs b q k h;
+}
 
 -- ---- a walk in two parts
 
@@ -100,11 +102,11 @@ module _ (t : ℕ → Bool) (kinds ends refs bs cs : List ℕ) (W nb : ℕ) wher
           c r h ∙ ap (back (seen t kinds ends refs bs cs) r pc (q - pc)) (v.row known (omega arith) r h) ∙ before_back (seen t kinds ends refs bs cs) b pc q r (omega arith) (omega (arith, i))
 
       -- from the end of the block
-      pub row_in : (s₂ : List ℕ) → Fixed (seen t kinds ends refs bs cs) bs s W nb
-          → ((r : ℕ) → r < 64 * W → cell s₁ (nb * (3 * W)) r ≡ out (seen t kinds ends refs bs cs) (live_at s W nb r) b)
+      pub row_in : (s₂ : List ℕ) → Fixed (seen t kinds ends refs bs cs) s W nb
+          → ((r : ℕ) → r < 64 * W → cell s₁ (nb * (3 * W)) r ≡ cell s (b * (3 * W) + 2 * W) r)
           → ((r : ℕ) → r < 64 * W → cell s₂ (nb * (3 * W)) r ≡ back (seen t kinds ends refs bs cs) r pc (e - pc) (cell s₁ (nb * (3 * W)) r))
           → (r : ℕ) → r < 64 * W → cell s₂ (nb * (3 * W)) r ≡ live_before (seen t kinds ends refs bs cs) b pc r
-      row_in s₂ v c₁ c₂ = live-row-cells (seen t kinds ends refs bs cs) bs s s₁ s₂ W nb b pc e v (ee ∙ sym (end-view t kinds ends refs bs cs b (omega arith))) c₁ c₂
+      row_in s₂ v c₁ c₂ = live-row-cells (seen t kinds ends refs bs cs) s s₁ s₂ W nb b pc e known v (ee ∙ sym (end-view t kinds ends refs bs cs b (omega arith))) c₁ c₂
 
     -- ---- a safepoint
 

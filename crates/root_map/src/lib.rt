@@ -11,13 +11,13 @@ ghost use Rattle.code.specs.Inner.Columns.{wanted, Found, In};
 ghost use Rattle.liveness.specs.Inner.Scratch.{cell, Outside, Fixed};
 ghost use Rattle.liveness.specs.Inner.Chains.{Chains};
 ghost use Rattle.code.specs.Inner.Plans.{lent, all_seen};
-ghost use Rattle.liveness.specs.Inner.Plans.{out_row, Room};
+ghost use Rattle.liveness.specs.Inner.Plans.{walk_row, Room};
 ghost use Rattle.root_map.specs.Inner.Plans.{StandingAt, PointedAt, CountedAt, FitsAt, WrittenAt};
 
 use code::check::{check_function, rows_fit};
 use code::{Code, Flow, Plan, Tracked};
 use liveness::chains::{BlockChains, NO_BLOCK};
-use liveness::fixpoint::{analyse, back_at, gather};
+use liveness::fixpoint::{analyse, back_at, copy_live_out};
 use refusal::{Refusal, Reply};
 
 // How many safepoints, and registers live at them, there are.
@@ -58,9 +58,9 @@ fn block_of(walk: &Walk, b: usize, pc: usize) -> usize
 // Kept: the scratch goes beside the plan, as in liveness's fixpoint.rt.
 fn block_row(s: &mut [u64], plan: &Plan, b: usize, q: usize, pc: usize)
     requires nb_value { Room plan.now.flow s.old × (b < plan.now.flow.blocks.count) × In plan.now.flow.blocks.bounds.now b pc × (pc < q) }
-    requires fixed { Fixed (all_seen plan.now) plan.now.flow.blocks.bounds.now s.old plan.now.flow.words plan.now.flow.blocks.count }
+    requires fixed { Fixed (all_seen plan.now) s.old plan.now.flow.words plan.now.flow.blocks.count }
     requires standing { StandingAt plan.now s.old b q }
-    ensures { Outside s.old s.new (out_row plan.now.flow) plan.now.flow.words × ((r : ℕ) → r < 64 * plan.now.flow.words → cell s.new (out_row plan.now.flow) r
+    ensures { Outside s.old s.new (walk_row plan.now.flow) plan.now.flow.words × ((r : ℕ) → r < 64 * plan.now.flow.words → cell s.new (walk_row plan.now.flow) r
         ≡ live_before (all_seen plan.now) b pc r) }
 {
     let Flow {
@@ -75,7 +75,7 @@ fn block_row(s: &mut [u64], plan: &Plan, b: usize, q: usize, pc: usize)
         back_at(s, &registers, at, words, pc, q);
         return;
     }
-    gather(s, &plan.flow, b);
+    copy_live_out(s, &plan.flow, b);
     back_at(s, &registers, at, words, pc, e);
 }
 
@@ -83,7 +83,7 @@ fn block_row(s: &mut [u64], plan: &Plan, b: usize, q: usize, pc: usize)
 // live before it.
 fn point_row(s: &mut [u64], plan: &Plan, b: usize, q: usize, pc: usize) -> bool
     requires nb_value { Room plan.now.flow s.old × (pc < length plan.now.flow.kinds.now) × (pc < q) × Found plan.now.flow.blocks.bounds.now plan.now.flow.blocks.count pc b }
-    requires fixed { Fixed (all_seen plan.now) plan.now.flow.blocks.bounds.now s.old plan.now.flow.words plan.now.flow.blocks.count }
+    requires fixed { Fixed (all_seen plan.now) s.old plan.now.flow.words plan.now.flow.blocks.count }
     requires standing { StandingAt plan.now s.old b q }
     ensures { PointedAt plan.now s.old s.new b pc result }
 {
@@ -109,7 +109,7 @@ fn count_row(row: &[u64]) -> usize
 // Counts the map, the last instruction first.
 fn count_map(s: &mut [u64], walk: &Walk) -> Counts
     requires room { Room walk.now.plan.flow s.old }
-    requires fixed { Fixed (all_seen walk.now.plan) walk.now.plan.flow.blocks.bounds.now s.old walk.now.plan.flow.words walk.now.plan.flow.blocks.count }
+    requires fixed { Fixed (all_seen walk.now.plan) s.old walk.now.plan.flow.words walk.now.plan.flow.blocks.count }
     ensures { CountedAt walk.now.plan s.old s.new (length walk.now.plan.flow.kinds.now) result.points result.registers }
 {
     let Flow {
@@ -183,7 +183,7 @@ fn write_map(
     counts: Counts,
 )
     requires room { Room walk.now.plan.flow s.old }
-    requires fixed { Fixed (all_seen walk.now.plan) walk.now.plan.flow.blocks.bounds.now s.old walk.now.plan.flow.words walk.now.plan.flow.blocks.count }
+    requires fixed { Fixed (all_seen walk.now.plan) s.old walk.now.plan.flow.words walk.now.plan.flow.blocks.count }
     requires fits { FitsAt walk.now.plan pcs.old bounds.old regs.old counts.points counts.registers }
     ensures { WrittenAt walk.now.plan s.old s.new pcs.old pcs.new bounds.old bounds.new regs.old regs.new (length walk.now.plan.flow.kinds.now) }
 {

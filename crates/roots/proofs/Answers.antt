@@ -1,5 +1,5 @@
 -- From the steps' contracts to the answers of the calls: one law for each way out. Assumes nothing.
-use mathlib.Core.Path.{◌≡◌, refl, sym, ap, ap₂, ◌∙◌, fun_ext}
+use mathlib.Core.Path.{◌≡◌, refl, sym, ap, ap₂, ◌∙◌}
 use mathlib.Core.Logic.{◌⊎◌, inl, inr}
 use mathlib.Core.Bool.{Bool, true, false, not, ◌&&◌, true≢false}
 use mathlib.Core.List.{List, []}
@@ -16,10 +16,11 @@ use Rattle.word.specs.Put.{put}
 use Rattle.word.specs.Ones.{passing}
 use Rattle.refusal.specs.Told.{answered, refused_by, here, nothing}
 use Rattle.refusal.specs.declared.Answer.{Answer}
+use Rattle.rows.proofs.Listing.{passing-most}
 use Rattle.rows.specs.Inner.Row.{bit_in, part, listed}
 use Rattle.rows.specs.Inner.Listing.{listing, listed_into}
 use Rattle.flow.specs.Function.{Function, Block, Instruction, LiveList, holds, inst, start, end, safepoint}
-use Rattle.flow.specs.Dataflow.{back, out, live_before, holder, live_row, track}
+use Rattle.flow.specs.Dataflow.{back, live_before, holder, live_row, track}
 use Rattle.word.proofs.Bools.{either, and_both, both-and}
 use Rattle.word.proofs.ChunkLaws.{pair-parts}
 use Rattle.flow.proofs.Lists.{passing-same, some_at, at_some}
@@ -28,7 +29,7 @@ use Rattle.roots.specs.Calls.{after, rows_after, registers_at, live_at_answer, L
 use Rattle.code.specs.View.{view, formed}
 use Rattle.code.specs.Lent.{Lent, function, right, need}
 use Rattle.code.specs.Inner.Columns.{seen, Found}
-use Rattle.liveness.specs.Inner.Scratch.{cell, live_at, Fixed}
+use Rattle.liveness.specs.Inner.Scratch.{cell, Fixed}
 use Rattle.code.proofs.Views.{inst-view}
 use Rattle.liveness.proofs.Steps.{part-cell}
 use Rattle.code.proofs.Forms.{formed-columns, formed-disjoint, blocks-count, block-at}
@@ -49,13 +50,12 @@ no-then b x y h = rw h
 
 -- ---- the row of an instruction
 
-pub live-row-cells : (f : Function) (bs s s₁ s₂ : List ℕ) (W nb b pc e : ℕ) → Fixed f bs s W nb → e ≡ end f b
-    → ((q : ℕ) → q < 64 * W → cell s₁ (nb * (3 * W)) q ≡ out f (live_at s W nb q) b)
+pub live-row-cells : (f : Function) (s s₁ s₂ : List ℕ) (W nb b pc e : ℕ) → b < nb → Fixed f s W nb → e ≡ end f b
+    → ((q : ℕ) → q < 64 * W → cell s₁ (nb * (3 * W)) q ≡ cell s (b * (3 * W) + 2 * W) q)
     → ((q : ℕ) → q < 64 * W → cell s₂ (nb * (3 * W)) q ≡ back f q pc (e - pc) (cell s₁ (nb * (3 * W)) q))
     → (q : ℕ) → q < 64 * W → cell s₂ (nb * (3 * W)) q ≡ live_before f b pc q
 unfolding live_before
-live-row-cells f bs s s₁ s₂ W nb b pc e v ee c₁ c₂ q h =
-    c₂ q h ∙ ap₂ (λ (x : ℕ) (y : Bool). back f q pc (x - pc) y) ee (c₁ q h ∙ ap (λ (X : ℕ → Bool). out f X b) (fun_ext (λ c. v.lives c q h)))
+live-row-cells f s s₁ s₂ W nb b pc e known v ee c₁ c₂ q h = c₂ q h ∙ ap₂ (λ (x : ℕ) (y : Bool). back f q pc (x - pc) y) ee (c₁ q h ∙ v.outs b q known h)
 
 -- its set bits are the registers
 pub row_listed : (f : Function) (s : List ℕ) (a W b pc : ℕ) → a + W ≤ length s → ((q : ℕ) → q < 64 * W → cell s a q ≡ live_before f b pc q) → holder f.blocks pc 0 ≡ b
@@ -129,6 +129,11 @@ module _ (l : Lent) (t : ℕ → Bool) where
     -- a row of whole words has no more of them
     pub row-registers : (m : ℕ) → length l.classes ≤ m → live_row m (track t (function l)) pc ≡ registers_at l t pc
     row-registers m h = map-unique (row-live m h) registers-live
+
+  -- they are no more than the function has
+  pub registers-few : (pc : ℕ) → length (registers_at l t pc) ≤ length l.classes
+  unfolding live_row
+  registers-few pc = passing-most _ 0 (length l.classes)
 
   module _ (pc : ℕ) (regs rows : List ℕ) where
     abbrev reply : Result ℕ

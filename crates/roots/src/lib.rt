@@ -2,6 +2,7 @@
 #![tactic(auto)]
 
 ghost use Rattle.std.specs.Prelude.{◌≡◌, ℕ, ◌+◌, ◌-◌, ◌*◌, ◌≤◌, ◌<◌, length, get_or, take, drop, replicate, is_some, unwrap_or, IfSome};
+ghost use Rattle.rows.specs.Inner.Row.{listed};
 ghost use Rattle.rows.specs.Inner.Listing.{listing, listed_into};
 ghost use Rattle.flow.specs.Function.{safepoint};
 ghost use Rattle.flow.specs.Dataflow.{live_before};
@@ -10,12 +11,12 @@ ghost use Rattle.code.specs.Lent.{function};
 ghost use Rattle.code.specs.Inner.Columns.{wanted, Found};
 ghost use Rattle.code.specs.Inner.Plans.{lent, planned, all_seen};
 ghost use Rattle.liveness.specs.Inner.Scratch.{cell};
-ghost use Rattle.liveness.specs.Inner.Plans.{out_row, Room};
+ghost use Rattle.liveness.specs.Inner.Plans.{walk_row, Room};
 ghost use Rattle.roots.specs.Calls.{LiveAtCall};
 
 use code::check::{check_function, rows_fit};
 use code::{Blocks, Code, Flow, Plan, Tracked};
-use liveness::fixpoint::{analyse, back_at, gather};
+use liveness::fixpoint::{analyse, back_at, copy_live_out};
 use refusal::{Refusal, Reply};
 
 // The block that holds instruction pc.
@@ -48,7 +49,7 @@ pub fn safepoint_block(plan: &Plan, pc: usize) -> Option<usize>
 pub fn live_row(s: &mut [u64], plan: &Plan, b: usize, pc: usize)
     requires nb_value { (b < plan.now.flow.blocks.count) × Room plan.now.flow s.old }
     requires b_bound { (get_or plan.now.flow.blocks.bounds.now (2 * b) 0 ≤ pc) × (pc < get_or plan.now.flow.blocks.bounds.now (2 * b + 1) 0) }
-    ensures { (length s.new ≡ length s.old) × ((q : ℕ) → q < 64 * plan.now.flow.words → cell s.new (out_row plan.now.flow) q ≡ live_before (all_seen plan.now) b pc q) }
+    ensures { (length s.new ≡ length s.old) × ((q : ℕ) → q < 64 * plan.now.flow.words → cell s.new (walk_row plan.now.flow) q ≡ live_before (all_seen plan.now) b pc q) }
 {
     let Flow {
         registers,
@@ -57,20 +58,20 @@ pub fn live_row(s: &mut [u64], plan: &Plan, b: usize, pc: usize)
         ..
     } = plan.flow;
     analyse(s, plan);
-    gather(s, &plan.flow, b);
+    copy_live_out(s, &plan.flow, b);
     let e = blocks.bounds[2 * b + 1] as usize;
     back_at(s, &registers, blocks.count * (3 * words), words, pc, e);
 }
 
-// The registers of the row at `at` are listed, if they fit, and the scratch becomes zero.
-fn list_at(s: &mut [u64], at: usize, words: usize, regs: &mut [u32]) -> Reply
-    requires { (at + words ≤ length s.old) × (words ≤ 256) }
+// The registers of the row at `at`, of which there are at most `most`, are listed, if they fit, and the scratch becomes zero.
+fn list_at(s: &mut [u64], at: usize, words: usize, most: usize, regs: &mut [u32]) -> Reply
+    requires { (at + words ≤ length s.old) × (words ≤ 256) × (length (listed 64 (take ((at + words) - at) (drop at s.old))) ≤ most) }
     ensures { (told result ≡ answered here nothing (listing 64 (take ((at + words) - at) (drop at s.old)) (length regs.old)))
         × (regs.new ≡ listed_into 64 (take ((at + words) - at) (drop at s.old)) regs.old)
         × (s.new ≡ replicate (length s.old) 0) }
 {
     let past = at + words;
-    let answer = rows::list(&s[at..past], regs);
+    let answer = rows::list(&s[at..past], most, regs);
     s.fill(0);
     match answer {
         Some(n) => Ok((n as u64, 0)),
@@ -95,6 +96,17 @@ pub fn live_at(code: Code, which: Tracked, pc: usize, regs: &mut [u32], rows: &m
         return Err(Refusal::NoMap);
     };
     live_row(rows, &plan, b, pc);
-    let Flow { blocks, words, .. } = plan.flow;
-    list_at(rows, blocks.count * (3 * words), words, regs)
+    let Flow {
+        registers,
+        blocks,
+        words,
+        ..
+    } = plan.flow;
+    list_at(
+        rows,
+        blocks.count * (3 * words),
+        words,
+        registers.classes.len(),
+        regs,
+    )
 }

@@ -2,13 +2,12 @@
 use mathlib.Core.Path.{◌≡◌, sym, ap, ap₂, ◌∙◌, subst}
 use mathlib.Core.List.{List, [], ◌∷◌, ◌++◌}
 use mathlib.Core.Bool.{Bool}
-use mathlib.Core.Logic.{inl, inr, ⊎_elim}
-use Prim.Native.Nat.{ℕ, zero, suc, ◌+◌, ◌-◌, ◌≤◌}
+use Prim.Native.Nat.{ℕ, zero, suc, ◌+◌, ◌-◌, ◌*◌, ◌≤◌}
 use native.Mathlib.Nat.{zero-add, suc-add, add-sub_cancel_left}
 use native.Mathlib.Omega.{arith}
 use lib.ListN.{take, drop, take-append-drop}
 use lib.Seq.{take-take, drop-drop, take-nil}
-use Rattle.rows.specs.Inner.Row.{Stepped, Part, part, Apart}
+use Rattle.rows.specs.Inner.Row.{Stepped, SteppedAt, Part, part}
 
 drop-take : (m n : ℕ) (l : List ℕ) → drop m (take (m + n) l) ≡ take n (drop m l)
 drop-take zero n l = ap (λ (k : ℕ). take k l) (zero-add n)
@@ -56,27 +55,24 @@ part-first s s' a e w R h p =
       after = drop-both a e w s' h ∙ ap₂ ◌++◌ cut p.after ∙ sym (drop-both a e w s h);
     }
 
--- rows from a on share no word, counted from a
-pub moved_apart : (n words a made out kill : ℕ) → Apart n words a made out kill → a ≤ made → a ≤ out → a ≤ kill → Apart (n - a) words 0 (made - a) (out - a) (kill - a)
-moved_apart n words a made out kill p m o k = record {
-  live_in = let x = p.live_in in omega arith;
-  made_in = let x = p.made_in in omega arith;
-  out_in = let x = p.out_in in omega arith;
-  kill_in = let x = p.kill_in in omega arith;
-  made_apart = ⊎_elim (λ h. inl (omega arith)) (λ h. inr (omega arith)) p.made_apart;
-  out_apart = ⊎_elim (λ h. inl (omega arith)) (λ h. inr (omega arith)) p.out_apart;
-  kill_apart = ⊎_elim (λ h. inl (omega arith)) (λ h. inr (omega arith)) p.kill_apart;
-}
-
--- the step in a part that was lent, said of the whole
-pub stepped-first : (W : ℕ) (s s' : List ℕ) (a e words made out kill : ℕ) (r : Bool) → Apart e words a made out kill → a ≤ made → a ≤ out → a ≤ kill
-    → Part s s' a e (λ m m'. Part m m' 0 (0 + words) (λ l l'. Stepped W l (part (made - a) ((made - a) + words) m) (part (out - a) ((out - a) + words) m) (part (kill - a) ((kill - a) + words) m) l' r))
-    → Part s s' a (a + words) (λ l l'. Stepped W l (part made (made + words) s) (part out (out + words) s) (part kill (kill + words) s) l' r)
-stepped-first W s s' a e words made out kill r p m o k q =
-    part-first s s' a e words _ p.live_in
+-- the step on a block's rows that were lent, said of the whole
+pub stepped-first : (W : ℕ) (s s' : List ℕ) (a e words kill out : ℕ) (r : Bool) → a + words ≤ e → a ≤ kill → kill + words ≤ e → a ≤ out → out + words ≤ e
+    → Part s s' a e (λ m m'. Part m m' 0 (0 + words) (λ l l'. Stepped W l (part (kill - a) ((kill - a) + words) m) (part (out - a) ((out - a) + words) m) l' r))
+    → Part s s' a (a + words) (λ l l'. Stepped W l (part kill (kill + words) s) (part out (out + words) s) l' r)
+stepped-first W s s' a e words kill out r inside k kill_in o out_in q =
+    part-first s s' a e words _ inside
     (record {
       len = q.len;
-      inside = rw (← part-part a e made words s m p.made_in, ← part-part a e out words s o p.out_in, ← part-part a e kill words s k p.kill_in) q.inside;
+      inside = rw (← part-part a e kill words s k kill_in, ← part-part a e out words s o out_in) q.inside;
       before = q.before;
       after = q.after;
     })
+
+-- the same for rows that lie one after the other
+pub stepped-block : (s s' : List ℕ) (a words : ℕ) (r : Bool)
+    → Part s s' a (a + 3 * words) (λ m m'. SteppedAt words 0 m m' r) → SteppedAt words a s s' r
+stepped-block s s' a words r q =
+    let k : (a + words) - a ≡ 0 + words = omega arith in
+    let o : (a + 2 * words) - a ≡ 0 + 2 * words = omega arith in
+    stepped-first 64 s s' a (a + 3 * words) words (a + words) (a + 2 * words) r (omega arith) (omega arith) (omega arith) (omega arith) (omega arith)
+    (rw (k, o) q)

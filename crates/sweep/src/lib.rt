@@ -59,7 +59,6 @@ fn compact(n: usize, kind: &[u32], end: &mut [u64], pool: &mut [u8])
 }
 
 // Slot `i` of `s` is dead, one generation on, and logged; it is free, or retired where it is worn out. Its data stays in the pool for now.
-// Kept: the epoch and the log are changed in place, as `Heap::changed` says it of a header by value: given back by value the log of 16 slots is copied for each slot that goes.
 fn release(heap: &mut Heap, narrow: &mut [u32], wide: &mut [u64], s: usize, i: usize)
     requires { CanRelease heap.old s i narrow.old wide.old }
     ensures { cut heap.new s narrow.new wide.new [] ≡ released_in (cut heap.old s narrow.old wide.old []) i }
@@ -73,9 +72,7 @@ fn release(heap: &mut Heap, narrow: &mut [u32], wide: &mut [u64], s: usize, i: u
     narrow[2 * s + i] = 0;
     wide[i] = 0;
     wide[2 * s + i] = 0;
-    let e = std::num::wrapping_add_u64(heap.epoch, 1);
-    heap.epoch = e;
-    heap.log[(e % 16) as usize] = index;
+    heap.log_change(index);
     if g == u32::MAX {
         narrow[5 * s + r] = index;
         heap.retired = r + 1;

@@ -10,7 +10,6 @@ use lib.Dec.{leb, eqb}
 use borrow.Author.Tests.{eq-eqb, ne_eqb, le-leb, lt-leb}
 use Rattle.ty.specs.Types.{Ty, Ty.missing, Ty.int, Ty.physical, Ty.enum, Ty.real, Ty.array, Ty.fields, Ty.access, Ty.file, Ty.protected, Const, Const.plain, Const.other, Table, type_at, const_at, none as no_const}
 use Rattle.std.specs.Prelude.{Option as Maybe, Some, None, Ok, Err, is_err, if◌then◌else◌}
-use Rattle.std.specs.Result.{result_ok}
 use Rattle.ty.specs.Words.{word_of, on_word, round_up, Word}
 use Rattle.layout.specs.Layout.{Lay, Dims, on_ok, dims_of, under, used_by, end_of, array_of, record_of, layout_at, layout_of}
 use Rattle.ty.specs.Walks.{has_handles, handles_by, handles_at}
@@ -38,25 +37,6 @@ use Rattle.trace.specs.Inner.Emit.{Raw, raw_of, Aim, handing_at, told, InUse}
 use Rattle.trace.specs.declared.tracer.Placed.{Placed}
 use Rattle.trace.proofs.Emits.{then_some, then-none, emit-none, emit-nil, told-traced, told-untraceable, many-end, many-ext, many-none, many-one}
 use Rattle.trace.proofs.Walks.{walk_is}
-
--- ---- what std's `ok` leaves of a layout
-
-pub no-layout : {B : Type 0} (l : Lay) (o : Maybe Layout) → o ≡ result_ok l → o ≡ None → ((why : Refusal) → l ≡ Err why → B) → B
-no-layout (Ok y) o e h f =
-    let k : ◌≡◌ {A = Maybe Layout} (Some y) None = sym e ∙ h in
-    let q : ◌≡◌ {A = ℕ} 0 1 = cc in
-    absurd (omega arith)
-no-layout (Err why) o e h f = f why refl
-
-pub a-layout : (l : Lay) (o : Maybe Layout) → o ≡ result_ok l → (z : Layout) → o ≡ Some z → l ≡ Ok z
-a-layout (Ok y) o e z h =
-    let k : ◌≡◌ {A = Maybe Layout} (Some y) (Some z) = sym e ∙ h in
-    let p : y ≡ z = cc in
-    ap (λ (x : Layout). Ok x) p
-a-layout (Err w) o e z h =
-    let k : ◌≡◌ {A = Maybe Layout} None (Some z) = sym e ∙ h in
-    let q : ◌≡◌ {A = ℕ} 0 1 = cc in
-    absurd (omega arith)
 
 -- ---- trace_in
 

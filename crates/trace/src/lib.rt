@@ -75,10 +75,10 @@ pub fn emit(here: Slots, sink: Sink, marks: &mut [u8], to: &mut [u64], n: usize,
             to.len() + 1
         }
         Sink::Work => {
-            match here.resolve(h) {
-                Ok(i) => queue(marks, to, n, i),
-                Err(_) => n,
-            }
+            let Ok(i) = here.resolve(h) else {
+                return n;
+            };
+            queue(marks, to, n, i)
         }
     }
 }

@@ -83,7 +83,9 @@ fn place_field(table: &Table, t: u64, c: u64, desc: &[u8], used: usize, off: u64
     if let Some(n) = layout::scalar_bytes(table, t, c) {
         return place_after(off, n, n, 1, 0);
     }
-    let l = layout::layout_below(table, t, c, &desc[used..], 64).ok()?;
+    let Ok(l) = layout::layout_below(table, t, c, &desc[used..], 64) else {
+        return None;
+    };
     place_after(off, l.size, l.align, l.count, l.used)
 }
 
@@ -220,7 +222,9 @@ impl Tracer<'_, '_, '_> {
             handing_at (aimed self.now) self.now.object.now (raw_of marks.old to.old n)
             (array_places self.now.table (length self.now.object.now) t elem c dims desc.now left at) }
     {
-        let l = layout::layout_array(&self.table, t, elem, c, dims, desc, 64).ok()?;
+        let Ok(l) = layout::layout_array(&self.table, t, elem, c, dims, desc, 64) else {
+            return None;
+        };
         let skip = 24 * (dims as usize);
         let k = turns_of(l.stride, l.count);
         let holds = self.table.has_handles(elem);
@@ -418,7 +422,9 @@ impl Tracer<'_, '_, '_> {
             align = align.max(l.align);
             used += layout::used_by(c, l.used);
         }
-        layout::record_end(off, align, used).ok()?;
+        let Ok(_) = layout::record_end(off, align, used) else {
+            return None;
+        };
         Some(m)
     }
 

@@ -1,11 +1,11 @@
 -- `heap_edit::resolve` meets its contract.
-use Rattle.std.proofs.Common.{ap}
-use Rattle.std.proofs.lemmas.Result.{err_from_is_err_and}
+use Rattle.std.proofs.Common.{sym, ap, ◌∙◌}
 use Rattle.refusal.specs.Told.{answered, here, nothing}
+use Rattle.handle.specs.Inner.Told.{told as found}
 use Rattle.heap_edit.proofs.resolve.Goals as goal
 
-pub returns-in_err-i : goal.returns-in_err-i
-returns-in_err-i c = let p = err_from_is_err_and c.from_residual.result c.from_residual.ensures.1 in rw (p.1, p.2) (ap (answered here nothing) c.in_err-i.ensures)
+pub returns-in_default : goal.returns-in_default
+returns-in_default c = ap (answered here nothing) (sym (ap found c.unwrap_err.ensures) ∙ c.resolve-resolved.ensures)
 
 pub returns : goal.returns
-returns c = ap (answered here nothing) c.in_ok-i.ensures
+returns c = ap (answered here nothing) (sym (ap found c.in-Ok.is) ∙ c.resolve-resolved.ensures)

@@ -7,13 +7,17 @@ use Rattle.code.specs.declared.Plan.{Plan}
 use Rattle.liveness.specs.Inner.Chains.{Chains}
 use Rattle.liveness.specs.Inner.Scratch.{Begun, Built}
 
--- the word at which the row after the blocks' begins
-abbrev pub out_row : Flow → ℕ
-out_row f = f.blocks.count * (3 * f.words)
+-- the word at which the live-out row of block b begins
+abbrev pub live_out : Flow → ℕ → ℕ
+live_out f b = b * (3 * f.words) + 2 * f.words
+
+-- the word at which the row after the blocks' begins, which is walked back through one block
+abbrev pub walk_row : Flow → ℕ
+walk_row f = f.blocks.count * (3 * f.words)
 
 -- there is room for the rows of the blocks and two more
 abbrev pub Room : Flow → List ℕ → Type 0
-Room f s = out_row f + 2 * f.words ≤ length s
+Room f s = walk_row f + 2 * f.words ≤ length s
 
 -- the chains of the blocks by their start
 abbrev pub StartChains : Blocks → (heads links : List ℕ) → Type 0

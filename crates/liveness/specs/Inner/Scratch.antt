@@ -1,12 +1,10 @@
--- What the inner functions ensure of the scratch. Block b has three rows of W words at b * (3 * W): live-in, kill, and one whose first word is the block
--- that follows in the code. After the rows of the last block come the row in which the live-out of one block is gathered, and a row of zeros.
+-- What the inner functions ensure of the scratch. Block b has three rows of W words at b * (3 * W): live-in, kill and live-out. After the rows of the last
+-- block comes the row that is walked back through one block, and one that no step needs.
 use Rattle.std.specs.Prelude.{◌≡◌, ◌⊎◌, Bool, true, false, ◌&&◌, List, [], ◌∷◌, ℕ, ◌+◌, ◌-◌, ◌*◌, ◌/◌, ◌%◌, ◌≤◌, ◌<◌, length, get_or, take, ltb, if◌then◌else◌}
 use Rattle.word.specs.Inner.Bit.{bit}
-use Rattle.word.specs.Lists.{tabulate}
 use Rattle.rows.specs.Inner.Row.{listed}
-use Rattle.flow.specs.Function.{Function, first_at}
-use Rattle.flow.specs.Dataflow.{gen, kill, into, live_in}
-use Rattle.code.specs.View.{block_at}
+use Rattle.flow.specs.Function.{Function}
+use Rattle.flow.specs.Dataflow.{gen, kill, out, into, live_in}
 use Rattle.code.specs.Inner.Columns.{seen}
 use Rattle.flow.specs.Inner.Sets.{Sound}
 
@@ -31,29 +29,23 @@ one_below t n = if◌then◌else◌ (ltb t n) (t ∷ []) []
 abbrev pub set_bits : ℕ → List ℕ → ℕ
 set_bits k s = length (listed 64 (take k s))
 
--- the live-in rows have gen, the kill rows are right, and r is live into each block whose live-in row has it
+-- the live-in rows have gen, the kill rows are right, r is live into each block whose live-in row has it, and a live-out row has it only if one of the blocks
+-- after has it in its live-in row
 pub record Rows (f : Function) (s : List ℕ) (W nb : ℕ) : Type 0 where
   pub gens : (b q : ℕ) → b < nb → q < 64 * W → gen f q b ≡ true → live_at s W nb q b ≡ true
   pub kills : (b q : ℕ) → b < nb → q < 64 * W → cell s (b * (3 * W) + W) q ≡ kill f q b
   pub sound : (q : ℕ) → q < 64 * W → Sound f q (live_at s W nb q)
+  pub outs : (b q : ℕ) → b < nb → q < 64 * W → cell s (b * (3 * W) + 2 * W) q ≡ true → out f (live_at s W nb q) b ≡ true
 
--- the third row of a nonempty block begins with the block that it falls through to, and the last row is zero
-pub record Linked (bs s : List ℕ) (W nb : ℕ) : Type 0 where
-  pub wide : 0 < W
-  pub next : (b : ℕ) → b < nb → get_or bs (2 * b) 0 < get_or bs (2 * b + 1) 0 → first_at (tabulate nb (block_at bs)) (get_or bs (2 * b + 1) 0) 0 ≡ one_below (get_or s (b * (3 * W) + 2 * W) 0) nb
-  pub blank : (q : ℕ) → q < 64 * W → cell s (nb * (3 * W) + W) q ≡ false
-
--- the rows of block b are begun, in words that were zero
+-- the rows of block b are begun, in words that were zero: its live-out row stays empty
 pub record Begun (t : ℕ → Bool) (ends refs bs cs s s' : List ℕ) (nb W b : ℕ) : Type 0 where
-  pub frame : Outside s s' (b * (3 * W)) (3 * W)
+  pub frame : Outside s s' (b * (3 * W)) (2 * W)
   pub lives : (ks : List ℕ) (q : ℕ) → q < 64 * W → cell s' (b * (3 * W)) q ≡ gen (seen t ks ends refs bs cs) q b
   pub kills : (ks : List ℕ) (q : ℕ) → q < 64 * W → cell s' (b * (3 * W) + W) q ≡ kill (seen t ks ends refs bs cs) q b
-  pub next : get_or bs (2 * b) 0 < get_or bs (2 * b + 1) 0 → first_at (tabulate nb (block_at bs)) (get_or bs (2 * b + 1) 0) 0 ≡ one_below (get_or s' (b * (3 * W) + 2 * W) 0) nb
 
 -- those of every block
 pub record Built (t : ℕ → Bool) (ends refs bs cs s s' : List ℕ) (nb W : ℕ) : Type 0 where
   pub kept : length s' ≡ length s
-  pub linked : Linked bs s' W nb
   pub rows : (ks : List ℕ) → Rows (seen t ks ends refs bs cs) s' W nb
 
 -- the block of turn i of a pass over nb blocks, which goes from the first to the last or the other way round; and the turn of block i
@@ -63,21 +55,23 @@ turn_of rising nb i = if◌then◌else◌ rising i (nb - 1 - i)
 -- a pass from s₀ to s; `changed` says whether a live-in row got more
 pub record Pass (ks ends refs bs s₀ s : List ℕ) (nb W : ℕ) (changed : Bool) : Type 0 where
   pub kept : length s ≡ length s₀
-  pub linked : Linked bs s W nb
   pub rows : (t : ℕ → Bool) (cs : List ℕ) → Rows (seen t ks ends refs bs cs) s₀ W nb → Rows (seen t ks ends refs bs cs) s W nb
   pub closed : changed ≡ false → (t : ℕ → Bool) (cs : List ℕ) (q : ℕ) → Rows (seen t ks ends refs bs cs) s₀ W nb → q < 64 * W → (b : ℕ) → b < nb
       → into (seen t ks ends refs bs cs) q (live_at s W nb q) b ≡ true → live_at s W nb q b ≡ true
+  pub outs : changed ≡ false → (t : ℕ → Bool) (cs : List ℕ) (q : ℕ) → Rows (seen t ks ends refs bs cs) s₀ W nb → q < 64 * W → (b : ℕ) → b < nb
+      → cell s (b * (3 * W) + 2 * W) q ≡ out (seen t ks ends refs bs cs) (live_at s W nb q) b
   pub more : changed ≡ true → set_bits (nb * (3 * W)) s₀ < set_bits (nb * (3 * W)) s
 
 -- no pass adds anything any more
 pub record Solved (ks ends refs bs s₀ s : List ℕ) (nb W : ℕ) : Type 0 where
   pub kept : length s ≡ length s₀
-  pub linked : Linked bs s W nb
   pub rows : (t : ℕ → Bool) (cs : List ℕ) → Rows (seen t ks ends refs bs cs) s₀ W nb → Rows (seen t ks ends refs bs cs) s W nb
   pub closed : (t : ℕ → Bool) (cs : List ℕ) (q : ℕ) → Rows (seen t ks ends refs bs cs) s₀ W nb → q < 64 * W → (b : ℕ) → b < nb
       → into (seen t ks ends refs bs cs) q (live_at s W nb q) b ≡ true → live_at s W nb q b ≡ true
+  pub outs : (t : ℕ → Bool) (cs : List ℕ) (q : ℕ) → Rows (seen t ks ends refs bs cs) s₀ W nb → q < 64 * W → (b : ℕ) → b < nb
+      → cell s (b * (3 * W) + 2 * W) q ≡ out (seen t ks ends refs bs cs) (live_at s W nb q) b
 
--- the live-in rows are the least fixpoint
-pub record Fixed (f : Function) (bs s : List ℕ) (W nb : ℕ) : Type 0 where
-  pub linked : 0 < W → Linked bs s W nb
+-- the live-in rows are the least fixpoint, and the live-out rows what it leaves
+pub record Fixed (f : Function) (s : List ℕ) (W nb : ℕ) : Type 0 where
   pub lives : (b q : ℕ) → q < 64 * W → live_at s W nb q b ≡ live_in f q b
+  pub outs : (b q : ℕ) → b < nb → q < 64 * W → cell s (b * (3 * W) + 2 * W) q ≡ out f (live_in f q) b

@@ -1,6 +1,6 @@
 use native.Mathlib.Omega.{arith}
 use Rattle.code.proofs.Checks.{formed-fit}
-use Rattle.liveness.specs.Inner.Plans.{out_row}
+use Rattle.liveness.specs.Inner.Plans.{walk_row}
 use Rattle.liveness.proofs.Scratch.{mid-length}
 use Rattle.root_map.proofs.Pointing.{fixed_out}
 use Rattle.root_map.proofs.Maps.{back_one, found-next, placed-next, counting-none, counting-yes, counting-no, counting-end}
@@ -19,7 +19,7 @@ pub overflow_add-points : goal.overflow_add-points
 overflow_add-points c = omega (arith, c.loop-pc.invariant.few.0, (formed-fit _ _ _ _ _ c.args.walk.now.plan.passed).code-count)
 
 pub count_row-registers-requires : goal.count_row-registers-requires
-count_row-registers-requires c = omega (arith, mid-length (out_row c.args.walk.now.plan.flow) c.args.walk.now.plan.flow.words c.point_row.new.s (omega (arith, c.requires.room, c.loop-pc.invariant.going.frame.kept, c.point_row.ensures.frame.kept)), c.args.walk.now.narrow)
+count_row-registers-requires c = omega (arith, mid-length (walk_row c.args.walk.now.plan.flow) c.args.walk.now.plan.flow.words c.point_row.new.s (omega (arith, c.requires.room, c.loop-pc.invariant.going.frame.kept, c.point_row.ensures.frame.kept)), c.args.walk.now.narrow)
 
 pub overflow_add-registers : goal.overflow_add-registers
 overflow_add-registers c = omega (arith, c.loop-pc.invariant.few.1, (formed-fit _ _ _ _ _ c.args.walk.now.plan.passed).code-count, c.count_row-registers.ensures.1)

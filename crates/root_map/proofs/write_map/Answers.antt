@@ -1,6 +1,6 @@
 use native.Mathlib.Omega.{arith}
 use Rattle.code.proofs.Checks.{formed-fit}
-use Rattle.liveness.specs.Inner.Plans.{out_row}
+use Rattle.liveness.specs.Inner.Plans.{walk_row}
 use Rattle.liveness.proofs.Scratch.{mid-length}
 use Rattle.root_map.proofs.Pointing.{fixed_out}
 use Rattle.root_map.proofs.Maps.{back_one, found-next, placed-next, writing-none, one_less, room-points, room-bounds, room-registers, registers-room, writing-yes, writing-no, writing-end, points_kept, bounds-kept, registers-kept}
@@ -19,7 +19,7 @@ pub overflow_sub-k : goal.overflow_sub-k
 overflow_sub-k c = omega (arith, one_less _ _ _ _ _ _ _ _ c.requires.fits c.loop-pc.invariant (back_one _ c.loop-pc-test.true) c.point_row.ensures c.if-point_row.true)
 
 pub write_point-to-requires : goal.write_point-to-requires
-write_point-to-requires c = let high = registers-room _ _ _ _ _ _ _ _ c.requires.fits c.loop-pc.invariant in record { words_in_bounds = (omega (arith, mid-length (out_row c.args.walk.now.plan.flow) c.args.walk.now.plan.flow.words c.point_row.new.s (omega (arith, c.requires.room, c.loop-pc.invariant.going.frame.kept, c.point_row.ensures.frame.kept)), c.args.walk.now.narrow), omega (arith, (formed-fit _ _ _ _ _ c.args.walk.now.plan.passed).code-count, c.loop-pc.invariant.going.high, c.loop-pc-test.true), room-points _ _ _ _ _ _ _ _ c.requires.fits c.loop-pc.invariant (back_one _ c.loop-pc-test.true) c.point_row.ensures c.if-point_row.true, room-bounds _ _ _ _ _ _ _ _ c.requires.fits c.loop-pc.invariant (back_one _ c.loop-pc-test.true) c.point_row.ensures c.if-point_row.true, omega (arith, (formed-fit _ _ _ _ _ c.args.walk.now.plan.passed).code-count, high.1)); words_len_bound = (room-registers _ _ _ _ _ _ _ _ c.requires.fits c.loop-pc.invariant (back_one _ c.loop-pc-test.true) c.point_row.ensures c.if-point_row.true, high.0) }
+write_point-to-requires c = let high = registers-room _ _ _ _ _ _ _ _ c.requires.fits c.loop-pc.invariant in record { words_in_bounds = (omega (arith, mid-length (walk_row c.args.walk.now.plan.flow) c.args.walk.now.plan.flow.words c.point_row.new.s (omega (arith, c.requires.room, c.loop-pc.invariant.going.frame.kept, c.point_row.ensures.frame.kept)), c.args.walk.now.narrow), omega (arith, (formed-fit _ _ _ _ _ c.args.walk.now.plan.passed).code-count, c.loop-pc.invariant.going.high, c.loop-pc-test.true), room-points _ _ _ _ _ _ _ _ c.requires.fits c.loop-pc.invariant (back_one _ c.loop-pc-test.true) c.point_row.ensures c.if-point_row.true, room-bounds _ _ _ _ _ _ _ _ c.requires.fits c.loop-pc.invariant (back_one _ c.loop-pc-test.true) c.point_row.ensures c.if-point_row.true, omega (arith, (formed-fit _ _ _ _ _ c.args.walk.now.plan.passed).code-count, high.1)); words_len_bound = (room-registers _ _ _ _ _ _ _ _ c.requires.fits c.loop-pc.invariant (back_one _ c.loop-pc-test.true) c.point_row.ensures c.if-point_row.true, high.0) }
 
 pub loop-pc-preserved-then-point_row : goal.loop-pc-preserved-then-point_row
 loop-pc-preserved-then-point_row c = writing-yes _ _ _ _ _ _ _ _ c.requires.fits c.loop-pc.invariant (back_one _ c.loop-pc-test.true) c.point_row.ensures c.if-point_row.true (placed-next _ _ _ _ _ _ _ _ c.args.walk.now.plan.passed c.args.walk.now.plan.flow.counted c.loop-pc.invariant.going.placed (back_one _ c.loop-pc-test.true) c.block_of-b.ensures) _ _ _ _ c.write_point-to.ensures.0 c.write_point-to.ensures.1 c.write_point-to.ensures.2 c.write_point-to.ensures.3

@@ -2,14 +2,14 @@
 use native.Mathlib.Omega.{arith}
 use mathlib.Core.Path.{◌≡◌, sym, ◌∙◌, ap, subst}
 use Prim.Native.Nat.{ℕ, ◌+◌, ◌-◌, ◌*◌}
-use lib.ListN.{replicate, take, drop}
+use lib.ListN.{length, replicate, take, drop}
 use Rattle.rows.specs.Inner.Row.{listed}
 use Rattle.flow.specs.Dataflow.{live_row}
 use Rattle.code.specs.Inner.Columns.{wanted}
 use Rattle.code.specs.Inner.Plans.{lent, planned, all_seen}
-use Rattle.liveness.specs.Inner.Plans.{out_row}
+use Rattle.liveness.specs.Inner.Plans.{walk_row}
 use Rattle.code.proofs.Checks.{refuted, above}
-use Rattle.roots.proofs.Answers.{row_listed, at-scratch, at-function, at-no-map, at_listed}
+use Rattle.roots.proofs.Answers.{row_listed, row-registers, registers-few, at-scratch, at-function, at-no-map, at_listed}
 use Rattle.roots.proofs.Asking.{asked-room, few-words, asked-plan, need-rows, held-by}
 use Rattle.roots.proofs.live_at.Goals as goal
 
@@ -37,8 +37,15 @@ live_row-requires c = record {
 
 pub list_at-requires : goal.list_at-requires
 list_at-requires c =
-    let h = need-rows c.new-plan.result c.new-plan.ensures.words c.args.rows.now (asked-room c.new-plan.result (lent c.args.code) c.new-plan.ensures.code _ _ c.rows_fit.ensures c.if-not-rows_fit.false) in
-    (omega (arith, h, c.live_row.ensures.0), few-words c.new-plan.result c.new-plan.ensures.words)
+    let p = c.new-plan.result in
+    let h = need-rows p c.new-plan.ensures.words c.args.rows.now (asked-room p (lent c.args.code) c.new-plan.ensures.code _ _ c.rows_fit.ensures c.if-not-rows_fit.false) in
+    let row = row_listed (all_seen p) c.live_row.new.s (walk_row p.flow) p.flow.words c.in-Some.b c.args.pc (omega (arith, h, c.live_row.ensures.0)) c.live_row.ensures.1
+    (held-by p c.args.pc c.in-Some.b c.in-Some.ensures.inside c.in-Some.ensures.holds) in
+    let are = row-registers (planned p) (wanted p.flow.registers.which) c.args.pc p.passed (sym c.in-Some.ensures.safepoint) (p.flow.words * 64) (omega (arith, p.covered)) in (
+      omega (arith, h, c.live_row.ensures.0),
+      few-words p c.new-plan.ensures.words,
+      omega (arith, ap length (row ∙ are), registers-few (planned p) (wanted p.flow.registers.which) c.args.pc),
+    )
 
 pub returns : goal.returns
 returns c =
@@ -48,7 +55,7 @@ returns c =
     asked-plan p _ _ c.new-plan.ensures.code c.new-plan.ensures.which _ _ _ _ _ _
     (at_listed (planned p) (wanted p.flow.registers.which) c.args.pc c.args.regs.now c.args.rows.now room c.list_at.new.s (c.list_at.ensures.2 ∙ ap (λ (u : ℕ). replicate u 0) c.live_row.ensures.0) p.passed
     (sym c.in-Some.ensures.safepoint) _ _ _
-    (subst (λ (w : ℕ). listed 64 (take ((out_row p.flow + p.flow.words) - out_row p.flow) (drop (out_row p.flow) c.live_row.new.s)) ≡ live_row (w * 64) (all_seen p) c.args.pc) c.new-plan.ensures.words
-    (row_listed (all_seen p) c.live_row.new.s (out_row p.flow) p.flow.words c.in-Some.b c.args.pc (omega (arith, h, c.live_row.ensures.0)) c.live_row.ensures.1
+    (subst (λ (w : ℕ). listed 64 (take ((walk_row p.flow + p.flow.words) - walk_row p.flow) (drop (walk_row p.flow) c.live_row.new.s)) ≡ live_row (w * 64) (all_seen p) c.args.pc) c.new-plan.ensures.words
+    (row_listed (all_seen p) c.live_row.new.s (walk_row p.flow) p.flow.words c.in-Some.b c.args.pc (omega (arith, h, c.live_row.ensures.0)) c.live_row.ensures.1
     (held-by p c.args.pc c.in-Some.b c.in-Some.ensures.inside c.in-Some.ensures.holds)))
     c.list_at.ensures.0 c.list_at.ensures.1)

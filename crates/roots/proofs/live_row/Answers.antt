@@ -21,12 +21,12 @@ offset_bounds-blocks-b c = omega (arith, c.requires.nb_value.0, few-blocks c.arg
 pub analyse-requires : goal.analyse-requires
 analyse-requires c = record { nb_value = c.requires.nb_value.1 }
 
-pub gather-requires : goal.gather-requires
-gather-requires c = record { nb_value = (c.requires.nb_value.0, omega (arith, c.requires.nb_value.1, c.analyse.ensures.0), λ h. c.analyse.ensures.1.linked h) }
+pub copy_live_out-requires : goal.copy_live_out-requires
+copy_live_out-requires c = record { nb_value = (c.requires.nb_value.0, omega (arith, c.requires.nb_value.1, c.analyse.ensures.0)) }
 
 pub back_at-requires : goal.back_at-requires
 back_at-requires c = record {
-  words_in_bounds = omega (arith, c.requires.nb_value.1, c.analyse.ensures.0, c.gather.ensures.0.kept);
+  words_in_bounds = omega (arith, c.requires.nb_value.1, c.analyse.ensures.0, c.copy_live_out.ensures.0.kept);
   from_le_to = (
     omega (arith, c.requires.b_bound.1),
     subst (λ (u : ℕ). 3 * u ≤ length c.args.plan.now.flow.registers.ends.now) refl
@@ -36,4 +36,4 @@ back_at-requires c = record {
 }
 
 pub returns : goal.returns
-returns c = (c.back_at.ensures.0.kept ∙ c.gather.ensures.0.kept ∙ c.analyse.ensures.0, live-row-cells (seen (wanted c.args.plan.now.flow.registers.which) c.args.plan.now.flow.kinds.now c.args.plan.now.flow.registers.ends.now c.args.plan.now.flow.registers.refs.now c.args.plan.now.flow.blocks.bounds.now c.args.plan.now.flow.registers.classes.now) c.args.plan.now.flow.blocks.bounds.now c.analyse.new.s c.gather.new.s c.back_at.new.s c.args.plan.now.flow.words c.args.plan.now.flow.blocks.count c.args.b c.args.pc _ c.analyse.ensures.1 (refl ∙ sym (end-view (wanted c.args.plan.now.flow.registers.which) c.args.plan.now.flow.kinds.now c.args.plan.now.flow.registers.ends.now c.args.plan.now.flow.registers.refs.now c.args.plan.now.flow.blocks.bounds.now c.args.plan.now.flow.registers.classes.now c.args.b (omega (arith, c.args.plan.now.flow.counted, c.requires.nb_value.0)))) (c.gather.ensures.1 (wanted c.args.plan.now.flow.registers.which) c.args.plan.now.flow.registers.classes.now) (c.back_at.ensures.1 c.args.plan.now.flow.kinds.now c.args.plan.now.flow.blocks.bounds.now))
+returns c = (c.back_at.ensures.0.kept ∙ c.copy_live_out.ensures.0.kept ∙ c.analyse.ensures.0, live-row-cells (seen (wanted c.args.plan.now.flow.registers.which) c.args.plan.now.flow.kinds.now c.args.plan.now.flow.registers.ends.now c.args.plan.now.flow.registers.refs.now c.args.plan.now.flow.blocks.bounds.now c.args.plan.now.flow.registers.classes.now) c.analyse.new.s c.copy_live_out.new.s c.back_at.new.s c.args.plan.now.flow.words c.args.plan.now.flow.blocks.count c.args.b c.args.pc _ c.requires.nb_value.0 c.analyse.ensures.1 (refl ∙ sym (end-view (wanted c.args.plan.now.flow.registers.which) c.args.plan.now.flow.kinds.now c.args.plan.now.flow.registers.ends.now c.args.plan.now.flow.registers.refs.now c.args.plan.now.flow.blocks.bounds.now c.args.plan.now.flow.registers.classes.now c.args.b (omega (arith, c.args.plan.now.flow.counted, c.requires.nb_value.0)))) (c.copy_live_out.ensures.1) (c.back_at.ensures.1 c.args.plan.now.flow.kinds.now c.args.plan.now.flow.blocks.bounds.now))

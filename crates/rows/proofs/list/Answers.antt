@@ -1,19 +1,23 @@
 -- `rows::list` meets its contract.
+use mathlib.Core.Path.{sym, ◌∙◌}
 use Prim.Native.Nat.{◌≤◌, ◌<◌}
 use lib.ListN.{length}
-use borrow.Author.Tests.{lt-ltb, le-ltb}
+use borrow.Author.Tests.{leb-true, leb-false, lt-ltb, le-ltb}
 use Rattle.rows.specs.Inner.Row.{listed}
 use Rattle.rows.specs.Inner.Listing.{listing, listed_into}
 use Rattle.rows.proofs.list.Goals as goal
 
-pub returns-then-out-count : goal.returns-then-out-count
+pub returns-then-not-fits : goal.returns-then-not-fits
 unfolding listing listed_into
-returns-then-out-count c = let h : length c.args.out.now < length (listed 64 c.args.row.now) = rw (← c.count.ensures) c.if-out-count.true in
+returns-then-not-fits c = let h : length c.args.out.now < length (listed 64 c.args.row.now) = leb-false _ _ (sym c.fits.ensures ∙ c.if-not-fits.true) in
     let short = lt-ltb _ _ h in
     (simp short, simp short)
 
+pub list_row-requires : goal.list_row-requires
+list_row-requires c = (c.requires.0, leb-true _ _ (sym c.fits.ensures ∙ c.if-not-fits.false))
+
 pub returns : goal.returns
 unfolding listing listed_into
-returns c = let h : length (listed 64 c.args.row.now) ≤ length c.args.out.now = rw (← c.count.ensures) c.if-out-count.false in
+returns c = let h : length (listed 64 c.args.row.now) ≤ length c.args.out.now = leb-true _ _ (sym c.fits.ensures ∙ c.if-not-fits.false) in
     let room = le-ltb _ _ h in
     (simp (room, c.list_row.ensures.bits), simp room c.list_row.ensures.written)

@@ -1,9 +1,8 @@
 -- `sweep::release` meets its contract.
 use native.Mathlib.Omega.{arith}
 use lib.ListN.{length-set}
-use Rattle.std.specs.Prelude.{ℕ, ◌+◌, ◌%◌}
-use Rattle.std.proofs.Common.{refl, ap, slice_set}
-use Rattle.heap.specs.Header.{set_epoch}
+use Rattle.std.specs.Prelude.{◌+◌}
+use Rattle.std.proofs.Common.{refl, ap}
 use Rattle.heap.specs.Inner.Header.{set_changed, set_retired, set_free}
 use Rattle.sweep.proofs.Releasing.{free_in, retired-in}
 use Rattle.sweep.proofs.release.Goals as goal
@@ -23,7 +22,7 @@ bounds-narrow-s-then-g c = simp length-set (omega (arith, c.requires))
 pub returns-then-g : goal.returns-then-g
 returns-then-g c =
     retired-in c.args.heap.now (set_changed c.args.heap.now c.args.i) _ c.args.s c.args.i _ c.args.narrow.now c.args.wide.now c.requires c.next_generation-g.ensures refl c.if-g.true
-    (ap (λ (e : ℕ). set_retired (set_epoch c.args.heap.now e (slice_set c.args.heap.now.log (e % 16) c.args.i)) (c.args.heap.now.retired + 1)) c.wrapping_add_u64-e.ensures.value)
+    (ap (λ h. set_retired h (c.args.heap.now.retired + 1)) c.log_change.ensures)
 
 pub bounds-narrow-s-3 : goal.bounds-narrow-s-3
 bounds-narrow-s-3 c = simp length-set (omega (arith, c.requires))
@@ -31,4 +30,4 @@ bounds-narrow-s-3 c = simp length-set (omega (arith, c.requires))
 pub returns : goal.returns
 returns c =
     free_in c.args.heap.now (set_changed c.args.heap.now c.args.i) _ c.args.s c.args.i _ c.args.narrow.now c.args.wide.now c.requires c.next_generation-g.ensures refl c.if-g.false
-    (ap (λ (e : ℕ). set_free (set_epoch c.args.heap.now e (slice_set c.args.heap.now.log (e % 16) c.args.i)) (c.args.heap.now.free + 1)) c.wrapping_add_u64-e.ensures.value)
+    (ap (λ h. set_free h (c.args.heap.now.free + 1)) c.log_change.ensures)

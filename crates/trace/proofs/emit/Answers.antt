@@ -12,8 +12,8 @@ returns-then-limit c = check-full _ _ _ _ _ _ _ _ c.in-Check.is c.if-n-limit.fal
 pub returns-then-n-to : goal.returns-then-n-to
 returns-then-n-to c = search list-room
 
-pub returns-in-Err : goal.returns-in-Err
-returns-in-Err c = search work_none
+pub returns-in_default : goal.returns-in_default
+returns-in_default c = search work_none
 
 pub returns-else-limit : goal.returns-else-limit
 returns-else-limit c = check-full _ _ _ _ _ _ _ _ c.in-Check.is c.if-n-limit.false (omega arith)

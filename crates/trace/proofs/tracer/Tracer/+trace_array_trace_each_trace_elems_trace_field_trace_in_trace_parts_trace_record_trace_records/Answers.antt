@@ -6,30 +6,30 @@ use Rattle.std.specs.Prelude.{is_err}
 use borrow.Author.Tests.{eqb-true}
 use Rattle.ty.proofs.Ranges.{record-within, part-start, part_end}
 use Rattle.trace.proofs.Emits.{elems-end, elems-beyond, elems-fail, elems-next, elems-first}
-use Rattle.trace.proofs.TraceLaws.{no-layout, a-layout, array-none, array-fits, array-some, looked-records, part-zero, part-own, part_free, part-one, placed-counts}
+use Rattle.trace.proofs.TraceLaws.{array-none, array-fits, array-some, looked-records, part-zero, part-own, part_free, part-one, placed-counts}
 use Rattle.trace.proofs.Vacant.{part-vacant}
 use Rattle.trace.proofs.TraceLaws.{in-zero, in-plain, in-missing, in-access, in-protected, in_array, in-record, in-other}
 use Rattle.trace.proofs.TraceLaws.{parts-rest, parts-end, parts-nowhere, parts-const}
 use Rattle.trace.proofs.TraceLaws.{walk_first, fields-end, fields-over, field-unplaced, field-used, field-beyond, field-fail, field_next}
 use Rattle.trace.proofs.tracer.Tracer.+trace_array_trace_each_trace_elems_trace_field_trace_in_trace_parts_trace_record_trace_records.Goals as goal
 
-pub trace_array-returns-in_err-l : goal.trace_array-returns-in_err-l
-trace_array-returns-in_err-l t c = rw c.from_residual.ensures (no-layout _ _ c.ok.ensures.value c.in_err-l.was (array-none _ _ _ _ _ _ _ _ _ _ _ _ _ c.layout_array.ensures))
+pub trace_array-returns-in_default : goal.trace_array-returns-in_default
+trace_array-returns-in_default t c = array-none _ _ _ _ _ _ _ _ _ _ _ _ _ c.layout_array.ensures _ c.in_default.is
 
 pub trace_array-overflow_mul-skip : goal.trace_array-overflow_mul-skip
-trace_array-overflow_mul-skip t c = let f = array-fits _ _ _ _ _ _ _ _ c.layout_array.ensures _ (a-layout _ _ c.ok.ensures.value _ c.in_ok-l.was) in omega (arith, c.well_formed)
+trace_array-overflow_mul-skip t c = let f = array-fits _ _ _ _ _ _ _ _ c.layout_array.ensures _ c.in-Ok.is in omega (arith, c.well_formed)
 
 pub trace_array-slice_bounds-trace_parts-count : goal.trace_array-slice_bounds-trace_parts-count
-trace_array-slice_bounds-trace_parts-count t c = array-fits _ _ _ _ _ _ _ _ c.layout_array.ensures _ (a-layout _ _ c.ok.ensures.value _ c.in_ok-l.was)
+trace_array-slice_bounds-trace_parts-count t c = array-fits _ _ _ _ _ _ _ _ c.layout_array.ensures _ c.in-Ok.is
 
 pub trace_array-slice_bounds-trace_parts-start : goal.trace_array-slice_bounds-trace_parts-start
-trace_array-slice_bounds-trace_parts-start t c = array-fits _ _ _ _ _ _ _ _ c.layout_array.ensures _ (a-layout _ _ c.ok.ensures.value _ c.in_ok-l.was)
+trace_array-slice_bounds-trace_parts-start t c = array-fits _ _ _ _ _ _ _ _ c.layout_array.ensures _ c.in-Ok.is
 
 pub trace_array-trace_parts-requires : goal.trace_array-trace_parts-requires
 trace_array-trace_parts-requires t c = (omega arith, c.has_handles-holds.ensures)
 
 pub trace_array-returns : goal.trace_array-returns
-trace_array-returns t c = array-some _ _ _ _ _ _ _ _ _ _ _ _ _ c.layout_array.ensures _ (a-layout _ _ c.ok.ensures.value _ c.in_ok-l.was) _ c.turns_of-k.ensures c.trace_parts.result c.trace_parts.new.marks c.trace_parts.new.to c.trace_parts.ensures
+trace_array-returns t c = array-some _ _ _ _ _ _ _ _ _ _ _ _ _ c.layout_array.ensures _ c.in-Ok.is _ c.turns_of-k.ensures c.trace_parts.result c.trace_parts.new.marks c.trace_parts.new.to c.trace_parts.ensures
 
 pub trace_each-loop-init : goal.trace_each-loop-init
 trace_each-loop-init t c = (elems-first _ _ _ _ _ _ _, refl, refl)
@@ -186,8 +186,8 @@ trace_records-loop-preserved t c = (elems-next _ _ _ _ _ _ _ _ _ _ _ c.loop.inva
 pub trace_records-returns : goal.trace_records-returns
 trace_records-returns t c = elems-end _ _ _ _ _ _ _ _ _ _ _ c.loop.invariant.0 c.loop-test.false
 
-pub trace_record-returns-in_err-ok : goal.trace_record-returns-in_err-ok
-trace_record-returns-in_err-ok t c = rw c.from_residual-in_err-ok.ensures (no-layout _ _ c.ok.ensures.value c.in_err-ok.was (λ why e. fields-over _ _ _ _ _ _ _ _ _ _ _ _ _ _ _ _ _ c.loop-i.invariant.1 c.loop-i-test.false _ c.record_end.ensures (ap is_err e)))
+pub trace_record-returns-in_default : goal.trace_record-returns-in_default
+trace_record-returns-in_default t c = fields-over _ _ _ _ _ _ _ _ _ _ _ _ _ _ _ _ _ c.loop-i.invariant.1 c.loop-i-test.false _ c.record_end.ensures (ap is_err c.in_default.is)
 
 pub trace_record-returns : goal.trace_record-returns
-trace_record-returns t c = fields-end _ _ _ _ _ _ _ _ _ _ _ _ _ _ _ _ _ c.loop-i.invariant.1 c.loop-i-test.false _ c.record_end.ensures (ap is_err (a-layout _ _ c.ok.ensures.value _ c.in_ok-ok.was))
+trace_record-returns t c = fields-end _ _ _ _ _ _ _ _ _ _ _ _ _ _ _ _ _ c.loop-i.invariant.1 c.loop-i-test.false _ c.record_end.ensures (ap is_err c.in-Ok.is)
