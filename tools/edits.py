@@ -34,6 +34,7 @@ TABLE = "docs/EDITS.md"
 SCOPE = "docs/SCOPE.md"
 # the heads of the tables of TABLE
 CALLS, PROGRAMS, MISREADINGS = "Public call", "Wrong program", "Misreading"
+LOSSES = "What is lost"
 
 
 def read(path):
@@ -125,7 +126,7 @@ def rows():
         cells = [cell.strip() for cell in line.strip("| ").split(" | ")]
         if head is None:
             head = cells[0]
-        elif head in (CALLS, PROGRAMS, MISREADINGS):
+        elif head in (CALLS, PROGRAMS, MISREADINGS, LOSSES):
             name = cells[0].strip("`") if head == CALLS else cells[0]
             out.append((head, name, [re.findall(r"(\w+)/(\w+)", cell) for cell in cells[1:]]))
     return out
