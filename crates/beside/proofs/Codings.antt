@@ -67,7 +67,7 @@ module _ (place : ℕ → ℕ → Ordering) (b c found : List ℕ) (done a : ℕ
   unfolding found_at
   found-both h v w ev ew x y ex ey = rw (le-ltb (length found) 2 h, ← ev, ← ew, ← ex, ← ey) refl
 
--- the two bytes in the words of the definition: after a place they are those of `besideAt`
+-- the two bytes in the words of the definition: after a place they are those of `beside_at`
 pub beside-found : (place : ℕ → ℕ → Ordering) (b c : List ℕ) (x : Beside) (a : ℕ) → found_at place b c (codes_of x) x.done a ≡ codes_of (beside_at place b c x a)
 unfolding found_at
 beside-found place b c x a =

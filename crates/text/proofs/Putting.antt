@@ -1,4 +1,4 @@
--- The laws of `putText`.
+-- The laws of `put_text`.
 use Prim.Native.Nat.{ℕ, ◌+◌, ◌-◌, ◌*◌, ◌/◌, ◌%◌, ◌≤◌, ◌<◌}
 use Rattle.word.proofs.PutLaws.{put-none, length-put, put_one, put-put, take_put}
 use Rattle.word.specs.Put.{put}

@@ -1,4 +1,4 @@
--- A trace with another object beside it, in the words of the order of two heaps (02, [5]): from nothing found on, what is found is `besideAll` over the places. Assumes nothing.
+-- A trace with another object beside it, in the words of the order of two heaps: from nothing found on, what is found is `beside_all` over the places. Assumes nothing.
 use Prim.Native.Nat.{ℕ}
 use mathlib.Core.Path.{◌≡◌, refl, ap, ◌∙◌}
 use mathlib.Core.Option.{none, some}

@@ -1,4 +1,4 @@
--- `handle::resolve` meets its contract: each test of the code is a case of `resolveBy`.
+-- `handle::resolve` meets its contract: each test of the code is a case of `resolve_by`.
 use mathlib.Core.Path.{◌≡◌, sym, ap, ◌∙◌}
 use native.Mathlib.Omega.{arith}
 use Rattle.word.specs.Result.{ok}
