@@ -67,7 +67,7 @@ pub fn compare_bytes(data: &[u8], other: &[u8], from: usize, to: usize) -> Order
 }
 
 // An order as a byte of lent scratch, which is 0 as long as all is equal.
-// Kept: the scratch that is lent for what is found is bytes (at_place), so that an order goes in and out of it as a number.
+// An order goes in and out of lent scratch as a number, since that scratch is bytes (at_place).
 pub fn byte_of(o: Ordering) -> u8
     ensures { result ≡ code o }
 {
@@ -79,7 +79,6 @@ pub fn byte_of(o: Ordering) -> u8
 }
 
 // The order that a byte of lent scratch stands for.
-// Kept: as for byte_of.
 pub fn order_of(byte: u8) -> Ordering
     ensures { result ≡ order_of byte }
 {
@@ -91,7 +90,7 @@ pub fn order_of(byte: u8) -> Ordering
 }
 
 // The first that is not equal decides: what is found so far, as a byte, then the bytes from..to.
-// Kept: std's `then_with` would make 2 of a byte above 2, which is to stay; one function for this and then_handles would take what is compared as a closure and need a contract of its own.
+// A byte above 2 stays as it is.
 fn then_bytes(found: u8, data: &[u8], other: &[u8], from: usize, to: usize) -> u8
     requires { (to ≤ length «data».now) × (to ≤ length other.now) }
     ensures { result ≡ then_code found (order (take (to - from) (drop from «data».now)) (take (to - from) (drop from other.now))) }
@@ -113,7 +112,8 @@ fn then_handles(found: u8, here: Met, v: u64, there: Met, w: u64) -> u8
 }
 
 // At a handle place: the bytes from `done` up to it, then the handles there. The answer is how many bytes are behind afterwards.
-// Kept: `found` is two bytes, since one tracer serves marking and comparing, and the marks that are lent to it are bytes.
+// `found` is two bytes: one tracer serves marking and comparing, and the marks that it is lent are
+// bytes.
 pub fn at_place(
     here: Met,
     data: &[u8],

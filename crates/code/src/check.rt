@@ -8,7 +8,8 @@ ghost use Rattle.code.specs.Inner.Columns.{Lists, Separate, AtMost, Inside, Mark
 use crate::{Code, list_start};
 
 // Whether every byte is at most limit.
-// Kept: a loop that looks at all of them, which the compiler does many at a time; `all` stops at the first that is not, and looks at one after another.
+// The loop looks at all of them, which the compiler does many at a time; `all` would stop at the
+// first that is not.
 fn all_at_most(bytes: &[u8], limit: u8) -> bool
     ensures { (result ≡ true) ↔ AtMost bytes.now limit }
 {
@@ -64,7 +65,7 @@ fn blocks_apart(blocks: &[u32]) -> bool
     requires { Inside blocks.now 65536 }
     ensures { (result ≡ true) ↔ Separate blocks.now }
 {
-    // Kept: an array, since libraries have no heap; it has a bit for each instruction that a function may have.
+    // A bit for each instruction that a function may have.
     let mut marks = [0u64; 1024];
     let (rows, _) = blocks.as_chunks::<2>();
     for &[start, end] in rows {

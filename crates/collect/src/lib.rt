@@ -36,7 +36,6 @@ fn sweep_after<P: Pinned>(
 }
 
 // The objects that are not reached from a root, a seal or a pin are dropped. The scratch is zero before and after.
-// Kept: `CanMark` joins the heap, the pins and scratch, which the C interface lends by themselves.
 pub fn collect(
     table: &Table,
     lent: &mut ViewMut,

@@ -90,7 +90,6 @@ fn admit_inputs(
 }
 
 // Do scratch, heap and all inputs let the collection look for the safepoint?
-// Kept: of a heap that isn't tested yet, and of inputs that aren't, the C interface lends each part by itself.
 fn admit_joined(
     table: &Table,
     heap: Heap,
@@ -118,7 +117,6 @@ fn admit_joined(
 // An object outlives the collection exactly if a chain leads to it from the pins, the seals, the handles of the frame or the values of the registers of class 4
 // that are live at the safepoint pc. `addresses` are pairs of an address and a slot index, addresses strictly rising: an address that the frame has, or a register of
 // class 2 that is live there, pins the slot that it is listed with.
-// Kept: the C interface lends each part by itself.
 pub fn yexwalu_collect_joined(
     types: &[u64],
     fields: &[u32],

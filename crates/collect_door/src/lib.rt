@@ -52,7 +52,6 @@ fn admit(
 }
 
 // Drops the objects to which no chain leads from a root, a seal or a pin. Where a reached object can't be traced nothing changes.
-// Kept: the C interface lends each part by itself.
 pub fn yexwalu_collect(
     types: &[u64],
     fields: &[u32],

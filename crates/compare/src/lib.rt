@@ -41,7 +41,6 @@ pub fn put_turns(work: &mut [u64], n: usize)
     put_each(work, n);
 }
 
-// Kept: the order of two heaps' memory, not of two values, so it is no Ord; std has no `cmp_by`.
 // The roots of two heaps: the shorter list first, then handle by handle.
 pub fn compare_roots(here: Met, roots: &[u64], there: Met, other: &[u64]) -> Ordering
     ensures { result ≡ (nat_cmp (length roots.now) (length other.now)

@@ -37,7 +37,6 @@ struct Reached<'a> {
     count: usize,
 }
 
-// Kept: the order of two heaps' memory, not of two values, so it is no Ord.
 // The objects of both heaps in the order first met.
 fn compare_met(
     table: &Table,
@@ -75,7 +74,6 @@ fn compare_met(
     n.cmp(&m)
 }
 
-// Kept: as for the objects.
 // Roots, then objects, of two heaps.
 fn compare_marked(
     table: &Table,
@@ -107,7 +105,6 @@ fn compare_marked(
     compare_met(table, here, work, there, turns)
 }
 
-// Kept: as for the objects.
 // The order of two well formed heaps, each with roots of its own; none where something reached in either can't be traced. The scratch is zero, for more slots than there are: the first of
 // the marks are lent.
 pub fn order_heaps(

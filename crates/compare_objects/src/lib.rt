@@ -19,7 +19,6 @@ mod head; // kind, type, start and length
 
 pub use head::Head;
 
-// Kept: the order of two heaps' memory, not of two values, so it is no Ord.
 // The data of two objects whose numbers are those of x: one trace of the first with the second's bytes beside it. Bytes before start are among those outside.
 fn compare_data(
     table: &Table,
@@ -40,7 +39,7 @@ fn compare_data(
 {
     let start = x.start as usize;
     let from = start.min(data.len());
-    // Kept: what a trace finds beside goes to its two first marks, which it takes as a slice.
+    // What a trace finds beside goes to its two first marks.
     let mut found = [0u8; 2];
     let r = traced::trace_beside(
         table, here, x.kind, x.t as u64, start, data, there, other, &mut found, work, 0,
@@ -56,7 +55,6 @@ fn compare_data(
 }
 
 // The objects of two slots, i in the one heap and j in the other. `work` has the turns of the one and is left as it is.
-// Kept: as for the data.
 pub fn compare_slots(
     table: &Table,
     here: Objects,

@@ -59,7 +59,6 @@ impl Figures {
         }
     }
 
-    // Kept: mean and rest are of one shape, a word of std each; a function that took which would say no less.
     fn mean(self) -> u64
         ensures { result ≡ mean_of self }
     {
@@ -91,7 +90,7 @@ pub fn count(heap: Heap, narrow: &[u32], wide: &[u64], pool: &[u8]) -> Figures
 }
 
 // What a page shows that is not looked at, or that is no page: 17.
-// Kept: the number of a refusal as the call of the front door answers it, which is printed as it is.
+// The number is that of a refusal, as a public call answers it and as it is printed.
 pub fn no_page() -> Result<Figures, u64>
     ensures { result ≡ shown_as (refused 17) }
 {
@@ -99,7 +98,7 @@ pub fn no_page() -> Result<Figures, u64>
 }
 
 // The memory that a page is read into, and the scratch of the call. What it holds from page to page means nothing.
-// Kept: arrays of fixed size, so that no step can fail for want of memory.
+// Arrays of fixed size: no step can fail for want of memory.
 #[derive(Drop)]
 pub struct Memory {
     pub narrow: [u32; 24576],

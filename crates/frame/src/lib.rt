@@ -41,7 +41,7 @@ struct Entry {
 }
 
 // What one entry of a frame map gives of a kind: 0 handles, 1 addresses.
-// Kept: what is wanted is a kind as the map has it, 0 or 1, since an entry's kind is compared with it.
+// `want` is a kind as the map has it.
 fn trace_entry(
     table: &Table,
     here: Slots,

@@ -114,7 +114,6 @@ impl Heap {
         self.log[k] = i;
     }
 
-    // Kept: eight setters, here and below; they differ in the field, for which there is no parameter, and a chain of them reads as the steps of a call.
     pub fn with_since(mut self, n: u64) -> Heap
         ensures { result ≡ set_since self n }
     {
@@ -219,7 +218,7 @@ pub fn begins(end: &[u64], i: usize) -> usize
 }
 
 // The data of slot `i` of `n` becomes `new`; what lies after it moves up or down. The last slot's data moves no other byte.
-// Kept: `end` is a whole run of the wide list, of which n places are in use, and its contract speaks of the run.
+// `end` is a whole run of the wide list, of which `n` places are in use.
 pub fn splice(end: &mut [u64], pool: &mut [u8], n: usize, i: usize, new: &[u8])
     requires { CanSplice n i end.old pool.old new.now }
     ensures { Spliced n i end.old pool.old new.now end.new pool.new }
@@ -246,7 +245,7 @@ pub struct Contents<'a> {
 }
 
 // Slot `i` gets these numbers and this data.
-// Kept: most steps that call it have changed a list before, so that the heap isn't well formed yet, and it takes its parts.
+// Most steps that call it have changed a list before, so that the heap is not well formed yet.
 pub fn place(
     heap: Heap,
     narrow: &mut [u32],

@@ -236,7 +236,6 @@ pub fn yexwalu_edit(
 }
 
 // Bytes put over the visible data of slot `i`, from the offset `at` in it. The header stays as it is.
-// Kept: tried with `and_then`. Where the tests refuse, the closure isn't called, and std's clause doesn't say that what it took to change is then as it was; `?` needs a private function of the same parameters and clauses.
 pub fn yexwalu_write(
     heap: Heap,
     narrow: &[u32],

@@ -43,7 +43,7 @@ pub fn resolve(view: View, x: u64) -> Reply
 // ---- new
 
 // An empty heap in lent memory of six and four runs: all of it is cleared.
-// Kept: no heap lies in this memory yet, so it is lent in parts.
+// No heap lies in this memory yet, so it is lent in parts.
 pub fn new(tag: u8, narrow: &mut [u32], wide: &mut [u64], pool: &mut [u8]) -> Heap
     requires narrow_len { length narrow.old ≡ 6 * (length narrow.old / 6) }
     requires wide_len { length wide.old ≡ 4 * (length narrow.old / 6) }
@@ -66,7 +66,7 @@ fn raised(w: u64) -> u64
 }
 
 // Slot `i` gets this start and these bytes, and one write more.
-// Kept: it is `heap::place` with the numbers that stand there, so it takes the parts that `place` takes.
+// It is `heap::place` with the numbers that stand there.
 fn replace(
     heap: Heap,
     narrow: &mut [u32],
@@ -127,7 +127,6 @@ fn raise(wide: &mut [u64], at: usize)
 }
 
 // Bytes put over the visible data of slot `i`, from the offset `at` in it. The write count rises too where a live slot shows nothing.
-// Kept: the C interface lends the narrow list read-only here, so a door can't make a `ViewMut`.
 pub fn write(
     heap: Heap,
     narrow: &[u32],
@@ -168,7 +167,6 @@ pub fn write(
 // ---- reissue
 
 // A new handle for the live slot `i`: 9 where no live one is there, then 20 where it is worn out.
-// Kept: the C interface lends the pool read-only here, so a door can't make a `ViewMut`.
 pub fn reissue(
     heap: Heap,
     narrow: &mut [u32],
@@ -216,7 +214,6 @@ pub fn reissue(
 // ---- seal
 
 // One more handle after the first `count` of the output, for a live slot.
-// Kept: the seals stand in a run of the wide list, which a library can't grow, so their count comes with them.
 fn list_one(kind: u32, x: u64, count: usize, sealed: &mut [u64]) -> usize
     requires { count < length sealed.old }
     ensures { Listing kind x count sealed.old result sealed.new }
@@ -256,7 +253,6 @@ fn list_all(heap: Heap, narrow: &[u32], sealed: &mut [u64]) -> usize
 }
 
 // The seals become the handles of all live slots.
-// Kept: the C interface lends all but the wide list read-only here, so a door can't make a `ViewMut`.
 pub fn seal(heap: Heap, narrow: &[u32], wide: &mut [u64], pool: &[u8]) -> Heap
     requires { well_formed (lent heap narrow.now wide.old pool.now) ≡ true }
     ensures { Leaves (lent heap narrow.now wide.old pool.now)

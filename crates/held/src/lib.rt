@@ -87,8 +87,6 @@ pub fn keep(
 }
 
 // Places the object `bytes[start..]` of this kind and type. First: its handle.
-// Kept: the C interface lends the header and the heap in parts, and what a call here requires is said of these.
-// Kept: what the calls of this shape share is a header read, a struct of the heap and the header written; one function for them would take the call as a closure on the lent heap and say its contract again.
 pub fn yexwalu_held_alloc_from(
     tag: &mut [u8; 1],
     numbers: &mut [u64; 4],

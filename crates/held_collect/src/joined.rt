@@ -51,7 +51,6 @@ fn admit_joined(
 // An object outlives the collection exactly if a chain leads to it from the pins, the seals, the handles of the frame or the values of the registers of class 4
 // that are live at the safepoint pc. `addresses` are pairs of an address and a slot index, addresses strictly rising: an address that the frame has, or a register of
 // class 2 that is live there, pins the slot that it is listed with.
-// Kept: the C interface lends the header and the heap in parts, and what a call here requires is said of these.
 pub fn yexwalu_held_collect_joined(
     types: &[u64],
     fields: &[u32],

@@ -43,7 +43,6 @@ pub fn admit(
 }
 
 // Drops the objects to which no chain leads from a root, a seal or a pin. Where a reached object can't be traced nothing changes.
-// Kept: the C interface lends the header and the heap in parts, and what a call here requires is said of these.
 pub fn yexwalu_held_collect(
     types: &[u64],
     fields: &[u32],

@@ -18,7 +18,6 @@ use held::see;
 use refusal::Answer;
 
 // Takes out the object that the handle names, as `yexwalu_held_take` does, without handing it out.
-// Kept: the C interface lends the header and the heap in parts, and what a call here requires is said of these.
 pub fn yexwalu_held_free(
     tag: &mut [u8; 1],
     numbers: &mut [u64; 4],
@@ -48,7 +47,6 @@ pub fn yexwalu_held_free(
 }
 
 // New bytes and a new start for the object that the handle leads to. First: its slot.
-// Kept: the C interface lends the heap in parts, so an export takes them.
 pub fn yexwalu_held_edit(
     tag: &mut [u8; 1],
     numbers: &mut [u64; 4],
@@ -126,7 +124,6 @@ pub fn yexwalu_held_seal(
 }
 
 // Bytes put over the visible data of slot `i`, from the offset `at` in it. The header stays as it is.
-// Kept: the C interface lends the heap in parts, so an export takes them.
 pub fn yexwalu_held_write(
     tag: &[u8; 1],
     numbers: &[u64; 4],

@@ -17,7 +17,6 @@ use refusal::Answer;
 use text::output::Out;
 
 // How many objects the heap has, the bytes of their data, and the most that one of them has.
-// Kept: the C interface lends the header and the heap in parts, and what a call here requires is said of these.
 pub fn yexwalu_held_figures(
     tag: &[u8; 1],
     numbers: &[u64; 4],
@@ -36,7 +35,7 @@ pub fn yexwalu_held_figures(
 }
 
 // The totals over the pages before, and the figures of one page more.
-// Kept: `Figures::merged` requires sums that have 64 bits, which the figures that a host keeps need not have.
+// `Figures::merged` requires sums of 64 bits, which the figures that a host keeps need not have.
 pub fn yexwalu_held_figures_and(total: Figures, page: Figures) -> Figures
     ensures { result ≡ in_words (merge total page) }
 {

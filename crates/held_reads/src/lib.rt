@@ -22,7 +22,6 @@ use ty::Table;
 use ty_check::check_table;
 
 // The handles that a live slot shows, in the order in which it is traced; they go to the lent list from its front on. 9, 13, 7. First: how many.
-// Kept: the C interface lends the header and the heap in parts, and what a call here requires is said of these.
 pub fn yexwalu_held_slot_handles(
     types: &[u64],
     fields: &[u32],
@@ -59,7 +58,6 @@ pub fn yexwalu_held_slot_handles(
 // Do the heap and a type table fit together: has every object of kind Typed a type of the table, and
 // can its handles be traced? first: 1 yes, 0 no. second: after no, the first slot that does not fit;
 // 0 after yes.
-// Kept: the C interface lends the header and the heap in parts, and what a call here requires is said of these.
 pub fn yexwalu_held_traceable(
     types: &[u64],
     fields: &[u32],
@@ -89,7 +87,6 @@ pub fn yexwalu_held_traceable(
 }
 
 // First: how many bytes the heap's page has, with byte planes or data.
-// Kept: the C interface lends the header and the heap in parts, and what a call here requires is said of these.
 pub fn yexwalu_held_page_length(
     tag: &[u8; 1],
     numbers: &[u64; 4],
@@ -109,7 +106,6 @@ pub fn yexwalu_held_page_length(
 }
 
 // Writes the heap's page to `out`, with byte planes or data: 7. First: its length.
-// Kept: the C interface lends the header and the heap in parts, and what a call here requires is said of these.
 pub fn yexwalu_held_write_page(
     tag: &[u8; 1],
     numbers: &[u64; 4],

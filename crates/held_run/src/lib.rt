@@ -13,7 +13,6 @@ use heap::view_mut::ViewMut;
 use refusal::Answer;
 
 // Runs a script of calls, line by line, as `yexwalu_run` does. `room` takes the data of a line while it is decoded, and need not be longer than any line says; it is zero afterwards.
-// Kept: the C interface lends the header and the heap in parts, and what a call here requires is said of these.
 pub fn yexwalu_held_run(
     tag: &mut [u8; 1],
     numbers: &mut [u64; 4],

@@ -20,7 +20,6 @@ use refusal::{Answer, Refusal};
 use std::cmp::Ordering;
 use ty::Table;
 
-// Kept: marks and work of each heap stand side by side, as the C interface lends them.
 // Is there scratch enough for two heaps? Then it is zero.
 fn admit(
     narrow: &[u32],
@@ -47,7 +46,6 @@ fn admit(
     Ok(())
 }
 
-// Kept: the order of two heaps' memory, not of two values, so it is no Ord.
 // The order of two heaps, or why there is none.
 fn compare_known(
     table: &Table,
@@ -76,7 +74,6 @@ fn compare_known(
 }
 
 // Are two heaps the same model, as `yexwalu_same` finds? 18, 13. First: 1 yes, 0 no.
-// Kept: the C interface lends the headers and the heaps in parts, and what a call here requires is said of these.
 pub fn yexwalu_held_same(
     types: &[u64],
     fields: &[u32],
@@ -142,7 +139,6 @@ pub fn yexwalu_held_same(
 }
 
 // Which of two heaps comes first, as `yexwalu_order` finds? 18, 13. First: 0 less (the heap that is named first), 1 equal, 2 greater.
-// Kept: as for yexwalu_held_same.
 pub fn yexwalu_held_order(
     types: &[u64],
     fields: &[u32],

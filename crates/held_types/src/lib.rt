@@ -153,7 +153,6 @@ pub fn yexwalu_held_object_handles(
 }
 
 // The handles of a value of type t that needs no descriptor. First: how many.
-// Kept: the C interface has a call for objects and one for values.
 pub fn yexwalu_held_value_handles(
     types: &[u64],
     fields: &[u32],

@@ -36,7 +36,6 @@ fn admit(
 }
 
 // The fewest roots with which `collect`, with these pins, keeps just the wanted slots and drops the others, as `yexwalu_roots_for` finds them. 18, 14, 21, 7. First: how many.
-// Kept: the C interface lends the header and the heap in parts, and what a call here requires is said of these.
 pub fn yexwalu_held_roots_for(
     types: &[u64],
     fields: &[u32],

@@ -19,7 +19,6 @@ use door::Done;
 use heap::Heap;
 use refusal::Answer;
 
-// Kept: it has the parameters of the C interface's call, whose contract it is to show.
 pub fn alloc_from(
     heap: Heap,
     narrow: &mut [u32],
@@ -167,7 +166,6 @@ pub fn seal(
     heap_door::yexwalu_seal(heap, narrow, wide, pool, marks, work)
 }
 
-// Kept: it has the parameters of the C interface's call, whose contract it is to show.
 pub fn collect(
     types: &[u64],
     fields: &[u32],
@@ -226,7 +224,6 @@ pub fn collect_wanted(
     )
 }
 
-// Kept: it has the parameters of the C interface's call, whose contract it is to show.
 pub fn collect_joined(
     types: &[u64],
     fields: &[u32],
@@ -294,7 +291,6 @@ pub fn run(
 }
 
 // A question to the heap of each of two saves.
-// Kept: it has the parameters of the C interface's call, whose contract it is to show.
 pub fn same(
     types: &[u64],
     fields: &[u32],

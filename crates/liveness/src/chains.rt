@@ -9,7 +9,7 @@ use code::Blocks;
 pub const NO_BLOCK: u16 = u16::MAX;
 
 // The first block of each chain, and the one after each block.
-// Kept: arrays of the largest sizes and chains of indices in them, since libraries have no heap.
+// Arrays of the largest sizes, and chains of indices in them: a library has no heap.
 #[derive(Drop)]
 pub struct BlockChains {
     pub heads: [u16; 4096],
@@ -18,7 +18,7 @@ pub struct BlockChains {
 
 impl BlockChains {
     // Block b becomes the first of its chain, unless it is empty.
-    // Kept: `word` is 0 or 1, the place of a block's start or end in its two words, and is added to an index.
+    // `word` is 0 for a block's start and 1 for its end: the place in its two words.
     fn hang(&mut self, blocks: &Blocks, word: usize, b: usize)
         requires { (blocks.now.count ≤ 4096) × (word < 2) × (b < blocks.now.count) × Chains blocks.now.bounds.now word blocks.now.count (b + 1) self.old.heads self.old.links }
         ensures { Chains blocks.now.bounds.now word blocks.now.count b self.new.heads self.new.links }
@@ -44,13 +44,12 @@ impl BlockChains {
     }
 
     // The first nonempty block whose word `word` is pc, or the number of blocks.
-    // Kept: a number for none, as the chains have it; an Option would be turned back at once.
+    // The number of blocks stands for none, as the chains have it.
     pub fn first_at(&self, blocks: &Blocks, word: usize, pc: usize) -> usize
         requires { (word < 2) × Chains blocks.now.bounds.now word blocks.now.count 0 self.now.heads self.now.links }
         ensures { First (Keyed blocks.now.bounds.now word pc) 0 blocks.now.count result }
     {
         let mut c = self.heads[pc % 4096] as usize;
-        // Kept: a `while`, since it follows a chain of links and counts no index.
         while c < blocks.count {
             if blocks.bounds[2 * c + word] as usize == pc {
                 return c;

@@ -1,6 +1,4 @@
 // The rows of all blocks in one scratch, three a block: live-in, kill and live-out; and the passes to the least fixpoint.
-// Kept: the scratch goes beside the `Flow` or `Plan`, with `Room` and `b < count` as clauses. Of a `&mut` in a struct of both, a caller would know no more than
-// the length after a step that lends a part of it on.
 ghost use Rattle.std.specs.Prelude.{◌≡◌, ◌⊎◌, Bool, ◌||◌, List, ℕ, ◌+◌, ◌-◌, ◌*◌, ◌≤◌, ◌<◌, length, get_or};
 ghost use Rattle.flow.specs.Function.{existing};
 ghost use Rattle.flow.specs.Dataflow.{back, killed, out};
@@ -34,7 +32,6 @@ pub fn back_at(
 }
 
 // The row at `at`, lent on to be written, gets the registers that the instructions from..to write.
-// Kept: apart from `back_at`, since each has a law of its own.
 fn kill_at(s: &mut [u64], registers: &Registers, at: usize, words: usize, from: usize, to: usize)
     requires words_in_bounds { at + words ≤ length s.old }
     requires from_le_to { (from ≤ to) × (3 * to ≤ length registers.now.ends.now) × (length registers.now.classes.now ≤ 64 * words) }

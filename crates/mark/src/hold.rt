@@ -25,7 +25,7 @@ impl Queue<'_> {
     }
 
     // Each pin of a list.
-    // Kept: apart from `pin_all`, since a dead slot is held too, so that the number of slots is all that it takes.
+    // A dead slot is held too, so the number of slots is all that it takes.
     pub fn hold_all(&mut self, slots: usize, pins: &[u32])
         requires { IsReady slots self.old }
         ensures { Becomes slots self.old self.new (pin_all (in_use slots) (state self.old) pins.now) }

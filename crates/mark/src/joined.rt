@@ -27,7 +27,7 @@ use ty::Table;
 impl Queue<'_> {
     // The value of register q is taken, if there is that register and it is of the class that is wanted: a handle (class 4) is followed, an address (class 2) is looked
     // up and its slot pinned.
-    // Kept: what is wanted is a class as the lent list has it, since a register's class is compared with it.
+    // `want` is a class as the lent list has it.
     fn push_at(&mut self, here: Slots, pairs: Pairs, want: u8, registers: Registers, q: usize)
         requires { IsReady here.slots self.old }
         ensures { Becomes here.entry.slots self.old self.new (taking want (leads here.entry) here.entry.slots pairs.entry.list.now
@@ -71,7 +71,7 @@ impl Queue<'_> {
         let mut turns: usize = 0;
         let mut i: usize = 0;
         let mut rest = rows::word_at(row, 0);
-        // Kept: a turn does not always pass a word of the row, and the number of turns is promised.
+        // A turn does not always pass a word of the row, and the number of turns is promised.
         while i < words {
             turns += 1;
             if rest == 0 {
@@ -112,7 +112,6 @@ impl Queue<'_> {
 }
 
 // All that is reached from the frame, the registers, the seals and the pins is marked, and so are pinned slots without an object, unless the frame map fails.
-// Kept: marks and work come apart, as in `mark_from`.
 fn mark_frame(
     table: &Table,
     objects: Objects,

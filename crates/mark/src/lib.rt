@@ -69,7 +69,7 @@ impl Queue<'_> {
             (drained (graph_of (lent table.now) objects.now) (objects.now.slots.slots - from) (state self.old) from) }
     {
         let mut next = from;
-        // Kept: the queue grows while it is gone through, so no range or slice of it is there before.
+        // The queue grows while it is gone through.
         while next < self.n {
             let i = (self.work[next] % 4294967296) as usize;
             self.trace_at(table, objects, i)?;
@@ -80,7 +80,6 @@ impl Queue<'_> {
 }
 
 // All that is reached from what is queued, the roots, the seals and the pins is marked.
-// Kept: marks, work and n come apart, as they are lent: of a part of the marks that is lent in a `Queue` only the length is known afterwards (tried in `mark`).
 pub fn mark_from(
     table: &Table,
     objects: Objects,

@@ -89,7 +89,6 @@ pub fn alloc_from(lent: &mut ViewMut, kind: u64, ty: u32, start: usize, bytes: &
 }
 
 // Recycles on a heap that is known to be well formed, where the pins rise strictly.
-// Kept: the C interface lends all but the narrow list read-only here, so a door can't make a `ViewMut`.
 pub fn recycle(heap: Heap, narrow: &mut [u32], wide: &[u64], pool: &[u8], pins: &[u32]) -> Changed
     requires { well_formed (lent heap narrow.old wide.now pool.now) ≡ true }
     ensures { Tells nothing nothing (lent heap narrow.old wide.now pool.now)
@@ -110,8 +109,6 @@ pub fn recycle(heap: Heap, narrow: &mut [u32], wide: &[u64], pool: &[u8], pins: 
 }
 
 // Places the object `bytes[start..]` of this kind and type; the answer is its handle.
-// Kept: the C interface lends the heap in parts, so an export takes them.
-// Kept: what the calls of this shape share is a test and two structs; one function for them would take the call as a closure on the lent heap and say its contract again.
 pub fn yexwalu_alloc_from(
     heap: Heap,
     narrow: &mut [u32],

@@ -49,7 +49,7 @@ fn is_word_given(rt: &impl Env) -> bool {
     !matches!(rt.arg(1, &mut []), Err(FillError::NotPresent))
 }
 
-// Kept: the program asks for no memory, so that it can't run out of it.
+// The program asks for no memory, so it can't run out of it.
 fn main(rt: HostRuntime) -> io::Result<()> {
     if is_word_given(&rt) {
         say_form(&rt);

@@ -20,7 +20,6 @@ use page_parser::lines::Lines;
 use refusal::Refusal;
 
 // Sets the bit of a slot, if it is among the `m` from `base` on. False: it is set already.
-// Kept: base, m and row are one run of slots; the row is lent to be changed, and of a struct that holds the loan each contract would also have to say that it is the same.
 fn mark_one(row: &mut [u64], base: usize, m: usize, v: usize) -> bool
     requires { m ≤ 64 * length row.old }
     ensures { Marked row.old row.new base m (v ∷ []) result }

@@ -38,7 +38,6 @@ impl Page<'_> {
     }
 
     // Sets the bits of the slots in the lists that a rule asks about.
-    // Kept: the rule is what the clauses speak of, so a closure for each would be chosen by the same match.
     fn mark_listed(self, rule: Rule, base: usize, m: usize, row: &mut [u64]) -> bool
         requires { m ≤ 64 * length row.old }
         ensures { Marked row.old row.new base m (listed rule (heap_in self.entry.text.now)) result }
@@ -89,7 +88,8 @@ impl Page<'_> {
         let slots = self.sections.slots;
         let mut k = self.sections.slots_at;
         let mut base = 0;
-        // Kept: the last run is shorter than the others, and 64 times the words may pass what a usize holds, so that with `step_by` each run would take the same sums.
+        // The last run is shorter than the others, and 64 times the words may pass what a usize
+        // holds.
         while base < slots {
             let m = crate::run_of(row.len(), slots - base);
             let Some(next) = self.check_run(rule, k, m, base, row) else {

@@ -23,7 +23,6 @@ fn sevens() -> Heap {
     }
 }
 
-// Kept: only the program damaged compares headers; an equality derived for the library's `Heap` would stand there for a test alone.
 fn is_sevens(h: Heap) -> bool {
     let numbers = h.since_gc == 7 && h.reclaim_at == 7 && h.live_bytes == 7 && h.epoch == 7;
     let counts = h.slots == 7
@@ -34,7 +33,7 @@ fn is_sevens(h: Heap) -> bool {
     h.tag == 7 && numbers && h.log == [7; 16] && counts
 }
 
-// Kept: a number and a flag that both always stand, since a refusal that changes something is what is looked for.
+// Both always stand: a refusal that changes something is what is looked for.
 // What a text is answered, and whether header and memory are the same afterwards.
 #[derive(Clone, Copy)]
 pub struct Seen {
@@ -54,7 +53,6 @@ impl Seen {
 }
 
 fn read_page(text: &[u8]) -> Seen {
-    // Kept: arrays of a fixed size, which the title names.
     let mut narrow = [7u32; 48];
     let mut wide = [7u64; 32];
     let mut pool = [7u8; 8];

@@ -29,7 +29,6 @@ pub fn yexwalu_page_length(
 }
 
 // Writes a heap's page to `out`, with byte planes or data: 18, 1, 7. The answer is its length.
-// Kept: `and_then` was tried in heap_door's `yexwalu_write`. Where the tests refuse, the closure isn't called, and std's clause doesn't say that what it took to change is then as it was; `?` needs a private function of the same parameters and clauses.
 pub fn yexwalu_write_page(
     heap: Heap,
     narrow: &[u32],

@@ -69,7 +69,7 @@ fn sound(x: SlotRead) -> bool
 }
 
 // What the lines of slots say: whether each is sound by itself, how many bytes of data they have, and what comes after them.
-// Kept: the flag and the place both always stand: an unsound value is read over, since that a text is no page is told before that its heap is broken.
+// An unsound value is read over: that a text is no page is told before that its heap is broken.
 #[derive(Clone, Copy)]
 pub struct SlotLines {
     pub sound: bool,
@@ -99,7 +99,6 @@ pub fn check_slots(s: &[u8], at: usize, count: usize, wide: bool) -> Option<Slot
 }
 
 // Whether the values of a list are as they are to be, and what comes after them.
-// Kept: both always stand, as in SlotLines.
 #[derive(Clone, Copy)]
 pub struct Values {
     pub sound: bool,
@@ -365,7 +364,6 @@ fn slot_names(s: &[u8], at: usize) -> Option<SlotNames>
 }
 
 // The lines of slots after their names line: where they begin, then as `SlotLines`, then what the names line says.
-// Kept: the flag and the places all always stand, as in SlotLines.
 #[derive(Clone, Copy)]
 pub struct SlotSection {
     pub begin: usize,
@@ -394,7 +392,6 @@ fn slot_section(s: &[u8], at: usize, count: usize) -> Option<SlotSection>
 }
 
 // The values of a list after its name: where they begin, then as `Values`.
-// Kept: the flag and the places all always stand, as in SlotLines.
 #[derive(Clone, Copy)]
 pub struct ListSection {
     pub begin: usize,

@@ -21,7 +21,7 @@ mod running;
 pub use running::Running;
 
 // Where a run stands: the names line is due, lines are run, or it is over and prints this number.
-// Kept: the number of a refusal as the call of the front door answers it, which is printed as it is.
+// The number is that of a refusal, as a public call answers it and as it is printed.
 #[derive(Clone, Copy)]
 pub enum At {
     Names,
@@ -129,7 +129,7 @@ fn put_number(out: &mut [u8; 14592], number: u64) -> usize
 
 impl Running {
     // A new heap, and a run at its start.
-    // Kept: arrays of fixed size, so that no step can fail for want of memory.
+    // Arrays of fixed size: no step can fail for want of memory.
     pub fn begin() -> Running
         ensures { Begun result.run (lies result) }
     {
@@ -275,14 +275,12 @@ impl Running {
 }
 
 // ALL THAT IS PRINTED for an input, in parts that the buffer takes. `failed`: the input could not be read to its end.
-// Kept: a buffer of fixed size, as the library has no heap.
 pub fn print_all(input: &[u8], failed: bool, out: &mut [u8; 14592]) -> usize
     ensures { Ends (printed failed input.now) out.new result }
 {
     let mut running = Running::begin();
     let mut buf = [0u8; 65536];
     let mut rest = input;
-    // Kept: how much a turn takes is what the run leaves room for, so that no iterator gives the parts.
     while !rest.is_empty() {
         let held = running.run.held;
         let more = rest.len().min(65536 - held);

@@ -20,7 +20,7 @@ fn unfold(alloc: Global, folded: &[u8]) -> Result<Vec<u8>, AllocError> {
 }
 
 // What is printed for an input.
-// Kept: a page has at most as many bytes, and `print_all` asks for that size by its type.
+// A page has at most so many bytes; `print_all` asks for that size by its type.
 fn show(rt: &impl Print, input: &[u8], failed: bool) -> io::Result<()> {
     let mut out = [0u8; 14592];
     let n = page_runs::print_all(input, failed, &mut out);

@@ -47,7 +47,8 @@ fn split_once(text: &[u8], b: u8) -> Option<(&[u8], &[u8])>
 }
 
 /// The first entry of a list with commas, and the others.
-// Kept: a loop over std's `split` learns how many parts there are and that none has a comma, not which they are; so entries are taken off one by one.
+// Entries are taken off one by one: of std's `split` a loop learns how many parts there are and
+// that none has a comma, not which they are.
 pub fn first_entry(list: &[u8]) -> (&[u8], Option<&[u8]>)
     ensures entries { parts 44 list.now ≡ result.0.now ∷ rest_parts result.1 }
     ensures shorter { IfSome result.1 (λ rest. length rest.now < length list.now) }
@@ -139,7 +140,6 @@ pub fn read_hex(field: &[u8], alloc: Global) -> Result<Vec<u8>, Fault>
         return Err(Fault::Bad);
     }
     let mut left = field;
-    // Kept: a slice pattern takes two digits off at a time, and no index is counted.
     while let [high, low, rest @ ..] = left {
         bytes.push(digit(*high)? * 16 + digit(*low)?)?;
         left = rest;

@@ -84,7 +84,6 @@ pub fn do_line(
         (lent g.heap narrow.old wide.old pool.old) words.old g plan.now.threshold (step_in plan.now.text.now line)) }
     ensures marks_unchanged { (marks.new ≡ marks.old) × (work.new ≡ work.old) }
 {
-    // Kept: the line says what is done, and each step needs other parts of the rehearsal; closures would have to be chosen by the same match.
     match line {
         Line::Alloc(a) => do_alloc(plan, a, g, narrow, wide, pool, words, marks, work),
         Line::Store(a) => do_store(g, narrow, wide, pool, a, words),

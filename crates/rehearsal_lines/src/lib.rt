@@ -62,7 +62,6 @@ pub fn all_lines(s: &[u8]) -> bool
     ensures { result ≡ is_text s.now }
 {
     let mut at = 0;
-    // Kept: the reader tells where the next line begins; `split_inclusive` would look for each line's end first, and the clauses tell of the text from a place on.
     while at < s.len() {
         let Some((_, next)) = read_line(s, at) else {
             return false;

@@ -31,7 +31,6 @@ pub fn held_at(words: &[u64], s: usize, n: usize, turn: u64) -> Option<u64>
 }
 
 // Lets go of what is held under this turn; false where nothing is.
-// Kept: words, half and count by themselves; the words are one list that the C interface lends, and how many are in use stands in what is counted, which is copied.
 pub fn let_go(words: &mut [u64], s: usize, n: usize, turn: u64) -> bool
     requires { Names s n words.old }
     ensures { LetGo s n turn words.old words.new result }

@@ -49,7 +49,6 @@ fn run_lines(
 {
     let mut r = g;
     let mut at = 0;
-    // Kept: the reader tells where the next line begins; `split_inclusive` would look for each line's end first, and the clauses tell of the text from a place on.
     while at < plan.text.len() {
         let Some((line, next)) = read_line(plan.text, at) else {
             unreachable!();
@@ -64,7 +63,6 @@ fn run_lines(
 }
 
 // Runs the lines of the text from a new heap of tag 1.
-// Kept: the heap's lists by themselves, here and in each line; the heap is made in memory where none lies, and each step needs that the lists keep their lengths.
 fn rehearse_one(
     plan: &Plan,
     narrow: &mut [u32],

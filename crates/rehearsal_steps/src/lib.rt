@@ -32,8 +32,8 @@ pub struct Going {
 }
 
 // A due collection from the held handles: counted, or 13 ends it.
-// Kept: `InOrder` in `requires`: it joins the heap, the words and the counts, and after a call on a struct that holds the heap's loans not even the lists' lengths are known, which each step needs.
-// Kept: that scratch is zero and that the counts can rise holds where a step begins; after one the counts may be the largest, so no field of `Going` can say it.
+// That scratch is zero and that the counts can rise holds where a step begins; after one the counts
+// may be the largest.
 pub fn collect_due(
     table: &Table,
     g: Going,

@@ -15,7 +15,6 @@ use rehearsal_lines::StoreLine;
 use rehearsal_names::{held_at, let_go};
 use rehearsal_steps::Going;
 
-// Kept: the parts by themselves, since `heap_edit::write` changes two of them and reads the third.
 // The handle `x` is stored into the object of `y`, at an offset in its data; false where there is no room for it there.
 fn store_into(
     heap: Heap,

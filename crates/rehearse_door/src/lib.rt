@@ -61,7 +61,6 @@ fn admit(
 
 // For each threshold a new heap of tag 1 in the lent memory runs the lines of the text, and a line of figures is printed. The answer is the number of bytes printed; the
 // memory then holds the heap of the last run.
-// Kept: the C interface lends each list by itself.
 pub fn yexwalu_rehearse(
     types: &[u64],
     fields: &[u32],

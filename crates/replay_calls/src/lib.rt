@@ -105,7 +105,6 @@ fn stamp(kept: &Kept, i: usize) -> Answer {
 }
 
 /// Answers a question.
-// Kept: a `match` on the question, since each has fields of its own to read.
 pub fn answer(
     rt: &impl Print,
     question: Question,

@@ -68,7 +68,6 @@ fn run(line: &mut Fields, kept: &mut Kept) -> Result<Answer, Fault>
     ensures { IfErr result (λ e. e ≡ Bad → kept.new ≡ kept.old) }
 {
     let text = line.script()?;
-    // Kept: an array, here and below: room of one call; a `Vec` would only add a way to fail.
     let mut room = [0u8; 65536];
     Ok(settle(kept, |heap, narrow, wide, pool, marks, work| {
         heaps::run(heap, narrow, wide, pool, &text, &mut room, marks, work)
@@ -76,7 +75,6 @@ fn run(line: &mut Fields, kept: &mut Kept) -> Result<Answer, Fault>
 }
 
 /// Runs a line that changes the heap. One that can't be read leaves it as it is.
-// Kept: a `match` on the command, since each has fields of its own to read.
 pub fn answer(
     rt: &impl Print,
     change: Change,

@@ -102,7 +102,6 @@ fn collect(kept: &mut Kept, t: &Table, roots: &[u64], pins: &[u32]) -> Done {
 // The joined collection.
 fn collect_joined(kept: &mut Kept, t: &Table, code: &Function, at: &Safepoint) -> Done {
     let mut s = Scratch::new();
-    // Kept: an array, scratch of one call; a `Vec` would only add a way to fail.
     let mut rows = [7u64; 131072];
     heaps::collect_joined(
         &t.types,
@@ -164,7 +163,11 @@ fn collect_wanted(
         &mut s.work,
     );
     kept.heap = done.heap;
-    put_told(rt, done.answer, |count, _| print!(rt; " {}", List(front(&out, count))))
+    put_told(
+        rt,
+        done.answer,
+        |count, _| print!(rt; " {}", List(front(&out, count))),
+    )
 }
 
 /// Runs a line. One that can't be read leaves the heap as it is.

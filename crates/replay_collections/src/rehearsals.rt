@@ -21,7 +21,6 @@ const MOST_PRINTED: usize = 20480;
 
 // The call, with scratch of its own.
 fn rehearse(kept: &mut Kept, t: &Table, text: &[u8], thresholds: &[u64], out: &mut [u8]) -> Answer {
-    // Kept: arrays, here and below: scratch and room of one call; a `Vec` would only add a way to fail.
     let mut names = [7u64; 4096];
     let mut marks = [7u8; 2048];
     let mut work = [7u64; 2048];

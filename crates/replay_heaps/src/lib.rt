@@ -110,7 +110,6 @@ fn put_form(rt: &impl Print, a: Answer) -> io::Result<()> {
 }
 
 /// Runs a line. One that can't be read leaves the heap as it is.
-// Kept: a `match` on the command, since each has fields of its own to read.
 pub fn answer(
     rt: &impl Print,
     command: Command,

@@ -53,8 +53,8 @@ impl Kept {
 }
 
 /// What a call is lent as scratch. It holds 7 everywhere, since no call may rely on what it finds there.
-// Kept: arrays, here and where a call of the front door is lent room for its answer: they last for one call and never change their length. With `vec![in alloc; 7; 8192]?` in their place
-// `new`, `ask` and all that go through them, 24 calls in the crates of commands, would answer a `Result` for memory that can't run out now.
+// They are arrays, here and where a call is lent room for its answer: they last for one call and
+// never change their length, so no command can run out of memory.
 #[derive(Clone, Copy)]
 pub struct Scratch {
     pub marks: [u8; 8192],

@@ -92,7 +92,6 @@ impl State {
     }
 
     // A line of any command.
-    // Kept: a test for each group of commands in turn, since each has a type of its own.
     fn run(&mut self, rt: &impl Print, name: &str, line: &mut Fields) -> Result<(), Fault> {
         if let Ok(command) = name.parse::<table::Command>() {
             return self.table.run(rt, command, line);

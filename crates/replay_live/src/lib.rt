@@ -46,7 +46,6 @@ fn put_points(rt: &impl Print, pcs: &[u32], bounds: &[u32], regs: &[u32]) -> io:
 
 // The map of all safepoints. Room for as many safepoints as there may be instructions.
 fn show_map(rt: &impl Print, code: &Function, all: bool) -> io::Result<()> {
-    // Kept: arrays, here and below: scratch and room of one call; a `Vec` would only add a way to fail.
     let mut rows = [7u64; 131072];
     let mut pcs = [0u32; 65536];
     let mut bounds = [0u32; 65536];

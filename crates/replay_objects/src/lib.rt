@@ -138,7 +138,6 @@ fn show_taken(rt: &impl Print, kept: &mut Kept, handle: u64) -> io::Result<()> {
 }
 
 /// Runs a line that changes an object. One that can't be read leaves the heap as it is.
-// Kept: a `match` on the command, since each has fields of its own to read.
 pub fn answer(
     rt: &impl Print,
     change: Change,

@@ -39,7 +39,6 @@ fn put_list(rt: &impl Print, a: Answer, out: &[u64]) -> io::Result<()> {
 
 // The handles of a slot. An object of the longest pool shows 8,192 handles at most.
 fn show_handles(rt: &impl Print, kept: &Kept, t: &Table, slot: usize) -> io::Result<()> {
-    // Kept: an array, here and below, as `Scratch` has them.
     let mut out = [7u64; 8192];
     let mut s = Scratch::new();
     let a = handles::slot_handles(

@@ -54,8 +54,6 @@ impl Roots {
     }
 }
 
-// Kept: apart from `order`: a bound such as `FnOnce(..) -> Answer` of more than twelve arguments is refused, and the two calls have eighteen; closures over one struct of all that is lent
-// would each write out the eighteen again.
 fn same(kept: &Kept, other: &Kept, t: &Table, roots: &Roots) -> Answer {
     let mut s = Scratch::new();
     let mut z = Scratch::new();
@@ -115,7 +113,6 @@ fn put_order(rt: &impl Print, a: Answer) -> io::Result<()> {
     })
 }
 
-// Kept: a `match` on the command, since each has fields of its own to read.
 /// Runs a line. One that compares the heaps leaves both as they are.
 pub fn answer(
     rt: &impl Print,

@@ -44,7 +44,6 @@ fn longest(alloc: Global) -> Result<Table, AllocError> {
 
 // The call, with names and scratch of its own.
 fn call(t: &mut Table, text: &[u8]) -> TableRead {
-    // Kept: arrays, here and below: scratch and room of one call; a `Vec` would only add a way to fail.
     let mut names = [7u8; 65536];
     let mut words = [7u64; 28672];
     let mut halves = [7u32; 32768];

@@ -58,7 +58,6 @@ fn put_size(rt: &impl Print, a: Answer) -> io::Result<()> {
 
 // The layout by a descriptor, and the offsets of a record's fields.
 fn show_layout(rt: &impl Print, t: &Table, ty: u64, desc: &[u8]) -> io::Result<()> {
-    // Kept: an array, here and below: room of one call; a `Vec` would only add a way to fail.
     let mut offsets = [0u64; 16384];
     let a = types::layout(
         &t.types,
@@ -123,7 +122,6 @@ fn show_roots(rt: &impl Print, t: &Table, map: &[u32], memory: &[u8]) -> io::Res
     })
 }
 
-// Kept: a `match` on the question, since each has fields of its own to read.
 /// Answers a question: of a type, with a descriptor, an object or a value in bytes; of a frame, with its map and its memory.
 pub fn answer(
     rt: &impl Print,

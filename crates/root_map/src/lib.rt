@@ -38,7 +38,7 @@ struct Walk<'a> {
 
 // The block that holds instruction pc, or the number of blocks, where b is that of pc + 1. From the last instruction to the first, a block is entered at its
 // last one: where b does not hold pc too, only a block that ends at pc + 1 can, and the chains of the blocks by their end have it.
-// Kept: a number for none, as the chains give it and as the next turn takes it.
+// The number of blocks stands for none, as the chains give it and as the next turn takes it.
 fn block_of(walk: &Walk, b: usize, pc: usize) -> usize
     requires { (pc < 65536) × Found walk.now.plan.flow.blocks.bounds.now walk.now.plan.flow.blocks.count (pc + 1) b }
     ensures { Found walk.now.plan.flow.blocks.bounds.now walk.now.plan.flow.blocks.count pc result }
@@ -55,7 +55,6 @@ fn block_of(walk: &Walk, b: usize, pc: usize) -> usize
 
 // The row after the blocks' becomes the registers that are live before instruction pc of block b. Where q is before the block's end, the row is that before
 // q, and the walk goes on from there.
-// Kept: the scratch goes beside the plan, as in liveness's fixpoint.rt.
 fn block_row(s: &mut [u64], plan: &Plan, b: usize, q: usize, pc: usize)
     requires nb_value { Room plan.now.flow s.old × (b < plan.now.flow.blocks.count) × In plan.now.flow.blocks.bounds.now b pc × (pc < q) }
     requires fixed { Fixed (all_seen plan.now) s.old plan.now.flow.words plan.now.flow.blocks.count }
@@ -173,7 +172,6 @@ fn write_point(
 }
 
 // Writes the map, of so many safepoints and registers, the last instruction first.
-// Kept: three lists side by side, as the C interface lends them; the contract says of each what it has.
 fn write_map(
     s: &mut [u64],
     walk: &Walk,

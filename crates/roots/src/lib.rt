@@ -45,7 +45,6 @@ pub fn safepoint_block(plan: &Plan, pc: usize) -> Option<usize>
 }
 
 // The row after the blocks' becomes the registers that are live before instruction pc of block b.
-// Kept: the scratch goes beside the plan, as in liveness's fixpoint.rt.
 pub fn live_row(s: &mut [u64], plan: &Plan, b: usize, pc: usize)
     requires nb_value { (b < plan.now.flow.blocks.count) × Room plan.now.flow s.old }
     requires b_bound { (get_or plan.now.flow.blocks.bounds.now (2 * b) 0 ≤ pc) × (pc < get_or plan.now.flow.blocks.bounds.now (2 * b + 1) 0) }

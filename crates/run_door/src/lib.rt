@@ -25,7 +25,6 @@ use refusal::{Answer, Refusal, Reply};
 use script::{AllocLine, Line, begins_call, read_line};
 
 // The call of an `alloc` line: 8, then 6, then 5. Data longer than the pool is not decoded, so that the room is enough.
-// Kept: the room is lent beside the heap; a struct of both would be taken apart for each line that needs the heap alone, as all but this one do.
 fn do_alloc(lent: &mut ViewMut, s: &[u8], a: AllocLine, room: &mut [u8]) -> Reply
     requires roomy { Roomy (length lent.old.pool.now) (length s.now) (length room.old) }
     requires data_there { DataThere s.now a }
@@ -68,7 +67,6 @@ fn recycle(lent: &mut ViewMut)
 }
 
 // The call of a line that was read.
-// Kept: each line is another call with arguments of its own, so a closure would say no more than its arm.
 fn do_line(lent: &mut ViewMut, s: &[u8], line: Line, room: &mut [u8]) -> Reply
     requires roomy { Roomy (length lent.old.pool.now) (length s.now) (length room.old) }
     requires data_in { DataIn s.now line }
@@ -95,7 +93,6 @@ pub fn run_lines(lent: &mut ViewMut, s: &[u8], room: &mut [u8]) -> Reply
         (run_script (length lent.old.narrow.now / 6) (length lent.old.pool.now) s.now (state lent.old)) }
 {
     let mut at = 0;
-    // Kept: the reader tells where the next line begins; `split_inclusive` would look for each line's end first, and the clauses tell of the text from a place on.
     while at < s.len() {
         let Some((line, next)) = read_line(s, at) else {
             return Err(Refusal::Page);

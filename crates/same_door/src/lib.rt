@@ -26,7 +26,6 @@ use ty_check::check_table;
 
 mod given; // one of the two heaps, as it is lent
 
-// Kept: marks and work of each heap stand side by side, as the C interface lends them, here and down to the marking.
 // Is there scratch enough for two heaps, and are both well formed? Then both, to be read. Scratch of both is zero afterwards, but as it was where that of either is too short.
 fn enter_both<'a, 'b>(
     given: Given<'a>,
@@ -84,7 +83,6 @@ fn admit<'a, 'b>(
     Ok(views)
 }
 
-// Kept: the order of two heaps' memory, not of two values, so it is no Ord.
 // The order of two heaps, each with roots of its own, or why there is none (13). All scratch is zero afterwards.
 pub fn order_saves(
     table: &Table,
@@ -118,7 +116,6 @@ pub fn order_saves(
     found.ok_or(Refusal::Untraceable)
 }
 
-// Kept: as for order_saves.
 // The same of two heaps as they are lent. All scratch is zero afterwards, but as it was where that of either is too short.
 fn compare_saves(
     table: &Table,
@@ -146,7 +143,6 @@ fn compare_saves(
     order_saves(table, here, there, marks, work, other_marks, other_work)
 }
 
-// Kept: one number of an order for each call, so no conversion of Ordering itself.
 // What `same` tells: 1 yes, 0 no. Equal heaps are the same model.
 pub fn same_values(o: Ordering) -> (u64, u64)
     ensures { result ≡ (same_number o, 0) }
@@ -154,7 +150,6 @@ pub fn same_values(o: Ordering) -> (u64, u64)
     (u64::from(o.is_eq()), 0)
 }
 
-// Kept: as for `same`.
 // What `order` tells: 0 less, 1 equal, 2 greater.
 pub fn order_values(o: Ordering) -> (u64, u64)
     ensures { result ≡ (order_number o, 0) }
@@ -168,7 +163,6 @@ pub fn order_values(o: Ordering) -> (u64, u64)
 
 // Are two heaps the same model: can the objects that the roots reach in the one be paired with those in the other, the roots in order, each pair of one kind, type, start and length, with the
 // same bytes outside the handle places, and handles that lead to paired objects or are the same bits and resolve in neither? 18, 1, 10, 13. first: 1 yes, 0 no.
-// Kept: the C interface, and its names for what is lent twice; what both calls do is compare_saves.
 pub fn yexwalu_same(
     types: &[u64],
     fields: &[u32],
@@ -227,7 +221,6 @@ pub fn yexwalu_same(
 
 // Which of two heaps comes first: the shorter root list, then the roots as handle places, then the objects in the order first met. 18, 1, 10, 13. first: 0 less (the heap that is
 // named first), 1 equal, 2 greater. Equal means that `same` says yes.
-// Kept: as for yexwalu_same.
 pub fn yexwalu_order(
     types: &[u64],
     fields: &[u32],

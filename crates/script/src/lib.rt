@@ -7,7 +7,7 @@ ghost use Rattle.script.specs.Reading.{alloc_format, read_take, read_call};
 ghost use Rattle.script.specs.Inner.Found.{LineRead, AllocRead};
 
 // A line `alloc`: type, kind, and data that stands in hexadecimal from `from` on.
-// Kept: a line tells places in a text that goes beside it, since the calls that lines stand for are told of the text; with the text in it (`text::hex::Hex`) they would be told of each line's own.
+// A line tells places in a text that goes beside it.
 #[derive(Clone, Copy)]
 pub struct AllocLine {
     pub ty: u64,

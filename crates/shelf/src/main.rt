@@ -14,7 +14,6 @@ fn feed(
     out: &mut [u8; 65536],
 ) -> io::Result<()> {
     let mut rest = input;
-    // Kept: how much a turn takes is what the run makes of it, so that no iterator gives the parts.
     while !rest.is_empty() {
         let done = reading.go_on(rest, out);
         rt.write_all(&out[..done.to])?;
@@ -43,7 +42,7 @@ fn serve(
     Ok(false)
 }
 
-// Kept: the program asks for no memory, so that it can't run out of it.
+// The program asks for no memory, so it can't run out of it.
 fn main(rt: HostRuntime) -> io::Result<()> {
     let mut input = [0u8; 65536];
     let mut out = [0u8; 65536];

@@ -15,7 +15,6 @@ mod reading;
 pub use reading::Reading;
 
 // Where a run stands in its input.
-// Kept: four states with names, none of them an absence or an error; `None` for the end would say less than `Over`.
 #[derive(Clone, Copy)]
 pub enum At {
     // A length line is due. So many digits of it were read, and they spell this number.
@@ -29,7 +28,6 @@ pub enum At {
 }
 
 // What some more input comes to.
-// Kept: three outcomes with names; as a ControlFlow over an Option the page that was passed over would be a `Break(None)`.
 #[derive(Clone, Copy)]
 pub enum Next {
     // No page has ended.
@@ -149,7 +147,6 @@ fn take_line(k: u64, n: u64, input: &[u8]) -> Taken
 }
 
 // Takes in one byte of a length line, or as much of a page as there is.
-// Kept: where the run stands says what is due, and each step needs other numbers of it; closures would have to be chosen by the same match.
 fn take_in(at: At, input: &[u8], held: &mut [u8; 32768]) -> Taken
     requires { GoodAt at }
     ensures { Takes at held.old input.now result.next result.used held.new }
@@ -273,7 +270,7 @@ pub struct Progress {
 
 impl Reading {
     // The names line, and a run at its start; and where in the output the line ends.
-    // Kept: arrays of fixed size, so that no step can fail for want of memory.
+    // Arrays of fixed size: no step can fail for want of memory.
     pub fn begin(out: &mut [u8; 65536]) -> (Reading, usize)
         ensures { Begun result.0.shelf out.new result.1 }
     {
@@ -305,7 +302,6 @@ impl Reading {
     {
         let mut page = Out { page: out, at: 0 };
         let mut used = 0;
-        // Kept: how much a turn takes is what the run makes of it, so that no iterator gives the parts.
         while used < input.len() {
             if 65376 < page.at {
                 return Progress { used, to: page.at };

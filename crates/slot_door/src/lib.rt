@@ -48,7 +48,6 @@ fn admit<'a>(
 }
 
 // The handles that slot i shows, which is in use: 13, 7.
-// Kept: three columns are read as mark's trace_at reads them; a method that answers them would be longer than the reading.
 fn list_at(table: &Table, objects: Objects, i: usize, out: &mut [u64]) -> Reply
     requires { i < objects.slots.slots }
     ensures { Lists (listing (shown_of (table_in table.now) objects.entry i) (length out.old)) result out.old out.new }
@@ -82,7 +81,6 @@ pub fn list_slot(table: &Table, view: View, i: usize, out: &mut [u64]) -> Reply
 
 // The handles that a live slot shows, in the order in which it is traced: an object of kind Typed by its type, of kind Handles by offset, of kind Bytes none. One with nothing
 // visible shows none. They go to the lent list from its front on. 18, 1, 10, 9, 13, 7. first: how many.
-// Kept: the C interface lends each part by itself.
 pub fn yexwalu_slot_handles(
     types: &[u64],
     fields: &[u32],
@@ -110,7 +108,6 @@ pub fn yexwalu_slot_handles(
         consts,
         bytes,
     };
-    // Kept: `and_then` was tried in heap_door's `yexwalu_write`. Where the tests refuse, the closure isn't called, and std's clause doesn't say that what it took to change is then as it was; `?` needs a private function of the same parameters and clauses.
     match admit(&table, heap, narrow, wide, pool, marks, work) {
         Err(why) => Answer::from(Err(why)),
         Ok(view) => Answer::from(list_slot(&table, view, slot, out)),
@@ -173,7 +170,6 @@ pub fn find_misfit(table: &Table, view: View) -> (u64, u64)
 // Do a heap and a type table fit together: has every object of kind Typed a type of the table, and
 // can its handles be traced? 18, 1, 10. first: 1 yes, 0 no. second: after no, the first slot that
 // does not fit; 0 after yes.
-// Kept: the C interface lends each part by itself.
 pub fn yexwalu_traceable(
     types: &[u64],
     fields: &[u32],

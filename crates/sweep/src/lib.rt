@@ -16,7 +16,8 @@ use heap_calls::pinned::Pinned;
 
 // The n bytes from `from` on come to stand from `to` on, which is not above: the lowest first, so that none is overwritten before it is read. Bytes that stay are not
 // touched.
-// Kept: `memory::move_within`, which is std's `copy_within`, takes twice as long for the 8 or 16 bytes of a small object (31 ns for 15, 58 for 30), 1.4 times for 32.
+// std's `copy_within` takes twice as long for the 8 or 16 bytes of a small object, 1.4 times for
+// 32.
 fn move_down(p: &mut [u8], from: usize, to: usize, n: usize)
     requires { (to ≤ from) × (from + n ≤ length p.old) }
     ensures { p.new ≡ put p.old to (drop from p.old) n }
@@ -42,7 +43,7 @@ fn settle(k: u32, from: usize, e: usize, to: usize, pool: &mut [u8]) -> usize
 }
 
 // The data of the first `n` slots packed again without those whose kind is 0, and zeros after it: one pass.
-// Kept: n slots of a column are in use; a heap lends the whole column, and the contract tells of it.
+// Of a column `n` slots are in use.
 fn compact(n: usize, kind: &[u32], end: &mut [u64], pool: &mut [u8])
     requires { CanCompact n kind.now end.old pool.old }
     ensures { Compacted n kind.now end.old pool.old end.new pool.new }

@@ -155,7 +155,6 @@ fn bytes_section(s: &[u8], at: usize) -> Option<BytesRead>
 }
 
 // Is a text a table's? Its numbers go into scratch: those of types and, from 16,384 on, of constants into `words`, those of fields into `halves`.
-// Kept: words and halves are two lent lists here and in `admit` and `check`; a struct of both would have to say again in each contract which loans it holds.
 fn parse(s: &[u8], words: &mut [u64], halves: &mut [u32]) -> Option<Sections>
     requires { (28672 ≤ length words.old) × (32768 ≤ length halves.old) }
     ensures { ParsedAs s.now words.old words.new halves.old halves.new result }

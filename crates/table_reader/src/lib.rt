@@ -95,7 +95,6 @@ fn tested(s: &[u8], room: Room, words: &mut [u64], halves: &mut [u32]) -> Result
 }
 
 // Puts the numbers of a table that was found into lists.
-// Kept: three functions ask for `Sectioned`: it has what follows each section in the text, so it is no fact for a ghost field.
 fn load_numbers(s: &[u8], x: Sections, types: &mut [u64], fields: &mut [u32], consts: &mut [u64])
     requires sectioned { Sectioned s.now x }
     requires types_in_bounds { (4 * x.types ≤ length types.old) × (2 * x.fields ≤ length fields.old) × (3 * x.consts ≤ length consts.old) }

@@ -18,7 +18,6 @@ use ty::Table;
 use ty_check::check_table;
 
 // How many bytes the values of a list take as numbers, each with a comma after it.
-// Kept: apart from pages' `values_len`, whose body is the same: it tells of another text, with a line for each, and each law is about one of the two texts.
 fn numbers_len<T: Listed>(list: &[T]) -> usize
     requires { length list.now ≤ 32768 }
     ensures value { result ≡ length (flat_map (λ x. field (T.number x)) list.now) }

@@ -29,7 +29,9 @@ pub enum Goal<'a> {
 }
 
 // An object is met: unless it is marked, it is marked and queued. The upper half of each word is left as it is, for what a call notes of a slot.
-// Kept: `inline(always)` here and at `emit`, and at `trace_handles` and `trace_slot` of traced, which a marking goes through for each object. They have callers with other sinks too, so in an archive `trace_slot` was else a call with a dozen arguments.
+// `inline(always)` here, at `emit`, `trace_handles` and `trace_slot`: a marking goes through them
+// for each object. They have callers with other sinks too, so that in an archive `trace_slot` would
+// be a call with a dozen arguments.
 #[inline(always)]
 pub fn queue(marks: &mut [u8], to: &mut [u64], n: usize, i: u32) -> usize
     ensures { raw_of marks.new to.new result ≡ queued (raw_of marks.old to.old n) i }
@@ -51,7 +53,9 @@ pub fn queue(marks: &mut [u8], to: &mut [u64], n: usize, i: u32) -> usize
 }
 
 // One handle goes to the sink.
-// Kept: the marks, the words and their count are three parameters, here and in the tracer: each sink means another thing by them (a limit that is counted up to, a list, a queue, what was found beside), so that a struct's names would be true of one sink alone. What a marking means by them is `mark::queue::Queue`.
+// The marks, the words and their count are three parameters, here and in the tracer: each sink
+// means another thing by them (a limit that is counted up to, a list, a queue, what was found
+// beside).
 #[inline(always)]
 pub fn emit(here: Slots, sink: Sink, marks: &mut [u8], to: &mut [u64], n: usize, h: u64) -> usize
     ensures { raw_of marks.new to.new result ≡

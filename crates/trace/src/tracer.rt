@@ -141,7 +141,6 @@ impl Tracer<'_, '_, '_> {
     }
 
     // An access value: eight bytes.
-    // Kept: `at` is another byte at each step, so that it lies in the object is a clause of each.
     fn trace_word(&self, at: usize, marks: &mut [u8], to: &mut [u64], n: usize) -> Option<usize>
         requires { at ≤ length self.now.object.now }
         ensures { told result marks.new to.new ≡
@@ -203,7 +202,6 @@ impl Tracer<'_, '_, '_> {
     }
 
     // An array by its layout. Whether its elements hold handles is asked once.
-    // Kept: a type, its descriptor and the levels left are other ones at each step down, so that a struct of them would be put together anew for each call.
     #[cycle(trace_array_trace_each_trace_elems_trace_field_trace_in_trace_parts_trace_record_trace_records)]
     fn trace_array(
         &self,
@@ -245,7 +243,6 @@ impl Tracer<'_, '_, '_> {
 
     // The handles in count elements of one type under one descriptor, the first at byte `at`. Each turn passes a stride's bytes of the data, so that a walk ends within
     // its length whatever the count.
-    // Kept: as trace_parts takes them.
     #[cycle(trace_array_trace_each_trace_elems_trace_field_trace_in_trace_parts_trace_record_trace_records)]
     fn trace_each(
         &self,
@@ -278,7 +275,6 @@ impl Tracer<'_, '_, '_> {
     }
 
     // The same, and records without asking again for each what they are.
-    // Kept: as trace_parts takes them.
     #[cycle(trace_array_trace_each_trace_elems_trace_field_trace_in_trace_parts_trace_record_trace_records)]
     fn trace_elems(
         &self,
@@ -305,7 +301,6 @@ impl Tracer<'_, '_, '_> {
     }
 
     // Elements, or a field as one of them: under the rest of the descriptor, or under their own constant, which is looked up once for all of them.
-    // Kept: what elements have in common goes on to trace_elems and trace_each as it is; a struct of it would be made anew for each field that is looked into, and the contracts would tell of its parts one by one as they do now.
     #[cycle(trace_array_trace_each_trace_elems_trace_field_trace_in_trace_parts_trace_record_trace_records)]
     fn trace_parts(
         &self,
@@ -348,7 +343,6 @@ impl Tracer<'_, '_, '_> {
     }
 
     // A field: an array without elements, a handle or a scalar without looking further, anything else as one element would be.
-    // Kept: a type, its descriptor and the levels left are other ones at each step down, so that a struct of them would be put together anew for each call.
     #[cycle(trace_array_trace_each_trace_elems_trace_field_trace_in_trace_parts_trace_record_trace_records)]
     fn trace_field(
         &self,
@@ -429,7 +423,6 @@ impl Tracer<'_, '_, '_> {
     }
 
     // The handles in count records of one type, as trace_each finds those in elements. A type is looked up once for all of them, where trace_in would look it up for each.
-    // Kept: a type, its descriptor and the levels left are other ones at each step down, so that a struct of them would be put together anew for each call.
     #[cycle(trace_array_trace_each_trace_elems_trace_field_trace_in_trace_parts_trace_record_trace_records)]
     fn trace_records(
         &self,
@@ -479,7 +472,7 @@ impl Tracer<'_, '_, '_> {
     }
 
     // The handles of a Handles object's visible data: at 24, 32, .. while eight bytes fit.
-    // Kept: trace_handles of crate traced stands beside it, so that a collection makes no tracer for such an object.
+    // A collection makes no tracer for such an object: it calls trace_handles.
     fn hand_handles(&self, marks: &mut [u8], to: &mut [u64], n: usize) -> usize
         ensures { raw_of marks.new to.new result ≡
             handed_all (aimed self.now) self.now.object.now (raw_of marks.old to.old n)

@@ -110,7 +110,7 @@ fn trace_typed(
 }
 
 // The handles that a slot of a heap shows, to a sink: bytes before start are never traced.
-// Kept: kind, type and start are read from the slot's columns for this call alone, so that a struct of them would be made and taken apart at once; the kind is the column's number, which shows nothing where it is neither 1 nor 3.
+// The kind is the column's number; a slot of a kind that is neither 1 nor 3 shows nothing.
 #[inline(always)]
 pub fn trace_slot(
     table: &Table,
@@ -143,7 +143,7 @@ pub fn trace_slot(
 
 // A slot's object beside one of another heap, whose data is as long: what is found of the bytes outside the handle places and of the handles there, and how many bytes
 // are behind, counted from start. `work` has the turns of this heap and is left as it is.
-// Kept: kind, type and start as trace_slot takes them; that both objects are as long is known from their heads, and the tracer keeps it.
+// That both objects are as long is known from their heads, and the tracer keeps it.
 pub fn trace_beside(
     table: &Table,
     here: Slots,

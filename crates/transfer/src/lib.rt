@@ -1,5 +1,4 @@
 // One row of registers: the steps back over the instructions of a block. Inner functions: a plan says what they require.
-// Kept: a row is a part of the scratch that is lent on, so that it has room for all registers is a clause of each step, and so is the range of instructions, which is another one for each block.
 #![tactic(auto)]
 
 ghost use Rattle.std.specs.Prelude.{◌≡◌, true, false, not, ◌&&◌, ◌||◌, List, ℕ, ◌+◌, ◌-◌, ◌*◌, ◌≤◌, ◌<◌, length};
@@ -40,7 +39,6 @@ fn set_all(row: &mut [u64], registers: &Registers, list: &[u32])
 }
 
 // Those of the list that take part are taken from the row.
-// Kept: apart from `set_all`, since each has a law of its own; one function with a flag is no plainer.
 fn clear_all(row: &mut [u64], registers: &Registers, list: &[u32])
     requires { length registers.now.classes.now ≤ 64 * length row.old }
     ensures { (q : ℕ) → bit_in 64 row.new q ≡ not (asked (wanted registers.now.which) registers.now.classes.now q && has list.now q) && bit_in 64 row.old q }
@@ -80,7 +78,6 @@ pub fn back_row(row: &mut [u64], registers: &Registers, from: usize, to: usize)
 }
 
 // The registers that the instructions from..to write are added to the row.
-// Kept: apart from `back_row`, since each has a law of its own.
 pub fn kill_row(row: &mut [u64], registers: &Registers, from: usize, to: usize)
     requires { (from ≤ to) × (3 * to ≤ length registers.now.ends.now) × (length registers.now.classes.now ≤ 64 * length row.old) }
     ensures { (ks bs : List ℕ) (q : ℕ) → bit_in 64 row.new q

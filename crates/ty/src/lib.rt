@@ -23,7 +23,6 @@ pub struct Table<'a> {
 pub const NO_CONST: u64 = 4294967295;
 
 // A row of the table. Int's bounds are 64-bit words in two's complement; a Record has its first field and how many.
-// Kept: a record has its first field and how many, as its row has them; the contracts tell of places in the table, which a slice of its fields would not know.
 #[derive(Clone, Copy)]
 pub enum Entry {
     Int { lo: u64, hi: u64 },

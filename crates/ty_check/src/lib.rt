@@ -158,7 +158,6 @@ fn count_types(table: &Table, counts: &[u32], sums: &[u32], next: &mut [u32])
 }
 
 // The counts of all types, one level more, by way of the fields' sums.
-// Kept: check_table tests the sizes, and the steps of its last test take them as clauses; a table that knew them would be made for these alone.
 fn unfold_level(table: &Table, counts: &[u32], sums: &mut [u32], next: &mut [u32])
     requires { (length sums.old ≡ length table.now.fields.now / 2) × (length table.now.fields.now / 2 ≤ 16384) × Capped counts.now }
     ensures { next.new ≡ next_counts (types_of table.now.types.now table.now.fields.now) counts.now (length next.old) }
@@ -203,7 +202,7 @@ fn unfolds_exactly(table: &Table) -> bool
     requires { (length table.now.types.now / 4 ≤ 4096) × (length table.now.fields.now / 2 ≤ 16384) }
     ensures { result ≡ all_below (small_at (types_of table.now.types.now table.now.fields.now)) (length table.now.types.now / 4) }
 {
-    // Kept: libraries have no heap, so that the scratch has the largest sizes.
+    // The scratch has the largest sizes: a library has no heap.
     let mut counts = [0u32; 4096];
     let mut other = [0u32; 4096];
     let mut sums = [0u32; 16384];
@@ -261,7 +260,6 @@ fn unfolds_among<const N: usize>(table: &Table) -> bool
     requires { (length table.now.types.now / 4 ≤ N) × (N ≤ 4096) × (length table.now.fields.now / 2 ≤ 16384) }
     ensures { result ≡ all_below (small_at (types_of table.now.types.now table.now.fields.now)) (length table.now.types.now / 4) }
 {
-    // Kept: libraries have no heap, so that the scratch is an array.
     let mut counts = [0u32; N];
     unfolds_in_order(table, &mut counts) || unfolds_exactly(table)
 }

@@ -102,7 +102,6 @@ pub fn list_roots(
 
 // The fewest roots with which `collect`, with these pins, keeps just the wanted slots and drops the others; of several lists as short the one with the smaller slot at
 // the first place where they differ. Their handles go to the lent list, rising by slot, from its front on. 18, 1, 10, 14, 21, 7. first: how many.
-// Kept: the C interface lends each part by itself.
 pub fn yexwalu_roots_for(
     types: &[u64],
     fields: &[u32],
@@ -136,7 +135,6 @@ pub fn yexwalu_roots_for(
         consts,
         bytes,
     };
-    // Kept: `and_then` was tried in heap_door's `yexwalu_write`. Where the tests refuse, the closure isn't called, and std's clause doesn't say that what it took to change is then as it was; `?` needs a private function of the same parameters and clauses.
     match admit(&table, heap, narrow, wide, pool, pins, wanted, marks, work) {
         Err(why) => Answer::from(Err(why)),
         Ok(view) => {

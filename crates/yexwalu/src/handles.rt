@@ -44,7 +44,6 @@ pub fn yexwalu_object_handles(
 }
 
 // The handles of a value of type t that needs no descriptor. first: how many.
-// Kept: the C interface has a call for objects and one for values.
 pub fn yexwalu_value_handles(
     types: &[u64],
     fields: &[u32],

@@ -48,7 +48,6 @@ pub fn write(
 }
 
 // `yexwalu_collect` under its short name. An import can't rename it so, since a crate is called `collect`.
-// Kept: the C interface lends each part by itself.
 pub fn collect(
     types: &[u64],
     fields: &[u32],

@@ -66,7 +66,6 @@ pub fn yexwalu_live_at(
 
 // The map of all safepoints, rising: `pcs` has each, `bounds` where its registers end in `regs`, and `regs` the registers that are live before it, rising: those of
 // classes 2 and 4, or all. first: how many safepoints; second: how many registers.
-// Kept: the C interface lends each column and list by itself.
 pub fn yexwalu_live_refs(
     kinds: &[u8],
     ends: &[u32],
