@@ -1,4 +1,5 @@
--- One block of a pass: its live-out row has what is live out of it, and the step adds what is not killed to its live-in row. Assumes nothing.
+-- One block of a pass: its live-out row has what is live out of it, and the step adds what is not
+-- killed to its live-in row. Assumes nothing.
 use mathlib.Core.Path.{◌≡◌, refl, sym, ap, ap₂, ◌∙◌, subst}
 use mathlib.Core.Logic.{◌⊎◌, inl, inr, ⊎_elim}
 use mathlib.Core.Bool.{Bool, true, false, not, ◌&&◌, ◌||◌}

@@ -1,4 +1,5 @@
-// The rows of all blocks in one scratch, three a block: live-in, kill and live-out; and the passes to the least fixpoint.
+// The rows of all blocks in one scratch, three a block: live-in, kill and live-out; and the passes
+// to the least fixpoint.
 ghost use Rattle.std.specs.Prelude.{◌≡◌, ◌⊎◌, Bool, ◌||◌, List, ℕ, ◌+◌, ◌-◌, ◌*◌, ◌≤◌, ◌<◌, length, get_or};
 ghost use Rattle.flow.specs.Function.{existing};
 ghost use Rattle.flow.specs.Dataflow.{back, killed, out};
@@ -56,8 +57,10 @@ fn join(s: &mut [u64], dst: usize, src: usize, words: usize)
 // The live-out row of block b gets the live-in registers of those of the target blocks that exist.
 fn join_targets(s: &mut [u64], flow: &Flow, b: usize, targets: &[u32])
     requires { (b < flow.now.blocks.count) × Room flow.now s.old }
-    ensures { Outside s.old s.new (live_out flow.now b) flow.now.words × ((q : ℕ) → q < 64 * flow.now.words → cell s.new (live_out flow.now b) q
-        ≡ list_any (live_at s.old flow.now.words flow.now.blocks.count q) (existing flow.now.blocks.count targets.now) || cell s.old (live_out flow.now b) q) }
+    ensures { Outside s.old s.new (live_out flow.now b) flow.now.words
+        × ((q : ℕ) → q < 64 * flow.now.words → cell s.new (live_out flow.now b) q
+        ≡ list_any (live_at s.old flow.now.words flow.now.blocks.count q)
+        (existing flow.now.blocks.count targets.now) || cell s.old (live_out flow.now b) q) }
 {
     let Flow { blocks, words, .. } = *flow;
     let nb = blocks.count;
@@ -73,10 +76,13 @@ fn join_targets(s: &mut [u64], flow: &Flow, b: usize, targets: &[u32])
 
 // The live-out row of block b gets the registers that are live into the blocks after it.
 fn leave(s: &mut [u64], flow: &Flow, starts: &BlockChains, b: usize)
-    requires nb_value { (b < flow.now.blocks.count) × Room flow.now s.old × StartChains flow.now.blocks starts.now.heads starts.now.links }
+    requires nb_value { (b < flow.now.blocks.count) × Room flow.now s.old
+        × StartChains flow.now.blocks starts.now.heads starts.now.links }
     ensures { Outside s.old s.new (live_out flow.now b) flow.now.words
-        × ((t : ℕ → Bool) (cs : List ℕ) (q : ℕ) → q < 64 * flow.now.words → cell s.new (live_out flow.now b) q
-        ≡ out (tested flow.now t cs) (live_at s.old flow.now.words flow.now.blocks.count q) b || cell s.old (live_out flow.now b) q) }
+        × ((t : ℕ → Bool) (cs : List ℕ) (q : ℕ) → q < 64 * flow.now.words
+        → cell s.new (live_out flow.now b) q
+        ≡ out (tested flow.now t cs) (live_at s.old flow.now.words flow.now.blocks.count q) b
+        || cell s.old (live_out flow.now b) q) }
 {
     let Flow {
         kinds,
@@ -114,7 +120,8 @@ fn leave(s: &mut [u64], flow: &Flow, starts: &BlockChains, b: usize)
 pub fn copy_live_out(s: &mut [u64], flow: &Flow, b: usize)
     requires nb_value { (b < flow.now.blocks.count) × Room flow.now s.old }
     ensures { Outside s.old s.new (walk_row flow.now) flow.now.words
-        × ((q : ℕ) → q < 64 * flow.now.words → cell s.new (walk_row flow.now) q ≡ cell s.old (live_out flow.now b) q) }
+        × ((q : ℕ) → q < 64 * flow.now.words
+        → cell s.new (walk_row flow.now) q ≡ cell s.old (live_out flow.now b) q) }
 {
     let Flow { blocks, words, .. } = *flow;
     let stride = 3 * words;
@@ -125,7 +132,8 @@ pub fn copy_live_out(s: &mut [u64], flow: &Flow, b: usize)
     }
 }
 
-// The three rows of one block, which begin at `at`, lent on to the step. Whether its live-in row got more.
+// The three rows of one block, which begin at `at`, lent on to the step. Whether its live-in row
+// got more.
 fn step_at(s: &mut [u64], at: usize, words: usize) -> bool
     requires { at + 3 * words ≤ length s.old }
     ensures { SteppedAt words at s.old s.new result }
@@ -144,8 +152,10 @@ fn block_of_turn(rising: bool, nb: usize, i: usize) -> usize
 
 // One pass over the blocks. Whether a live-in row got more.
 fn pass(s: &mut [u64], flow: &Flow, starts: &BlockChains, rising: bool) -> bool
-    requires nb_value { Room flow.now s.old × StartChains flow.now.blocks starts.now.heads starts.now.links }
-    ensures { Pass flow.now.kinds.now flow.now.registers.ends.now flow.now.registers.refs.now flow.now.blocks.bounds.now s.old s.new flow.now.blocks.count flow.now.words result }
+    requires nb_value { Room flow.now s.old
+        × StartChains flow.now.blocks starts.now.heads starts.now.links }
+    ensures { Pass flow.now.kinds.now flow.now.registers.ends.now flow.now.registers.refs.now
+        flow.now.blocks.bounds.now s.old s.new flow.now.blocks.count flow.now.words result }
 {
     let Flow { blocks, words, .. } = *flow;
     let nb = blocks.count;
@@ -165,8 +175,10 @@ fn pass(s: &mut [u64], flow: &Flow, starts: &BlockChains, rising: bool) -> bool
 // Passes until nothing changes. Each goes from the last block to the first, against the code's order, as what is live does; but one of four, the third, goes
 // the other way round: it takes along branches back, from one to the next, what would take a pass for each of them.
 fn solve(s: &mut [u64], flow: &Flow, starts: &BlockChains)
-    requires nb_value { Room flow.now s.old × StartChains flow.now.blocks starts.now.heads starts.now.links }
-    ensures { Solved flow.now.kinds.now flow.now.registers.ends.now flow.now.registers.refs.now flow.now.blocks.bounds.now s.old s.new flow.now.blocks.count flow.now.words }
+    requires nb_value { Room flow.now s.old
+        × StartChains flow.now.blocks starts.now.heads starts.now.links }
+    ensures { Solved flow.now.kinds.now flow.now.registers.ends.now flow.now.registers.refs.now
+        flow.now.blocks.bounds.now s.old s.new flow.now.blocks.count flow.now.words }
 {
     let mut done: u8 = 0;
     while pass(s, flow, starts, done % 4 == 2) {
@@ -207,10 +219,12 @@ fn start_blocks(s: &mut [u64], plan: &Plan)
     }
 }
 
-// The live-in and live-out rows of every block. The block that one falls through to is found in the chains of the blocks by their start.
+// The live-in and live-out rows of every block. The block that one falls through to is found in the
+// chains of the blocks by their start.
 pub fn analyse(s: &mut [u64], plan: &Plan)
     requires nb_value { Room plan.now.flow s.old }
-    ensures { (length s.new ≡ length s.old) × Fixed (all_seen plan.now) s.new plan.now.flow.words plan.now.flow.blocks.count }
+    ensures { (length s.new ≡ length s.old)
+        × Fixed (all_seen plan.now) s.new plan.now.flow.words plan.now.flow.blocks.count }
 {
     s.fill(0);
     if plan.flow.words == 0 {

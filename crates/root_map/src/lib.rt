@@ -57,9 +57,11 @@ fn block_of(walk: &Walk, b: usize, pc: usize) -> usize
 // q, and the walk goes on from there.
 fn block_row(s: &mut [u64], plan: &Plan, b: usize, q: usize, pc: usize)
     requires nb_value { Room plan.now.flow s.old × (b < plan.now.flow.blocks.count) × In plan.now.flow.blocks.bounds.now b pc × (pc < q) }
-    requires fixed { Fixed (all_seen plan.now) s.old plan.now.flow.words plan.now.flow.blocks.count }
+    requires fixed { Fixed (all_seen plan.now) s.old
+        plan.now.flow.words plan.now.flow.blocks.count }
     requires standing { StandingAt plan.now s.old b q }
-    ensures { Outside s.old s.new (walk_row plan.now.flow) plan.now.flow.words × ((r : ℕ) → r < 64 * plan.now.flow.words → cell s.new (walk_row plan.now.flow) r
+    ensures { Outside s.old s.new (walk_row plan.now.flow) plan.now.flow.words
+        × ((r : ℕ) → r < 64 * plan.now.flow.words → cell s.new (walk_row plan.now.flow) r
         ≡ live_before (all_seen plan.now) b pc r) }
 {
     let Flow {
@@ -82,7 +84,8 @@ fn block_row(s: &mut [u64], plan: &Plan, b: usize, q: usize, pc: usize)
 // live before it.
 fn point_row(s: &mut [u64], plan: &Plan, b: usize, q: usize, pc: usize) -> bool
     requires nb_value { Room plan.now.flow s.old × (pc < length plan.now.flow.kinds.now) × (pc < q) × Found plan.now.flow.blocks.bounds.now plan.now.flow.blocks.count pc b }
-    requires fixed { Fixed (all_seen plan.now) s.old plan.now.flow.words plan.now.flow.blocks.count }
+    requires fixed { Fixed (all_seen plan.now) s.old
+        plan.now.flow.words plan.now.flow.blocks.count }
     requires standing { StandingAt plan.now s.old b q }
     ensures { PointedAt plan.now s.old s.new b pc result }
 {
@@ -108,7 +111,8 @@ fn count_row(row: &[u64]) -> usize
 // Counts the map, the last instruction first.
 fn count_map(s: &mut [u64], walk: &Walk) -> Counts
     requires room { Room walk.now.plan.flow s.old }
-    requires fixed { Fixed (all_seen walk.now.plan) s.old walk.now.plan.flow.words walk.now.plan.flow.blocks.count }
+    requires fixed { Fixed (all_seen walk.now.plan) s.old
+        walk.now.plan.flow.words walk.now.plan.flow.blocks.count }
     ensures { CountedAt walk.now.plan s.old s.new (length walk.now.plan.flow.kinds.now) result.points result.registers }
 {
     let Flow {
@@ -181,7 +185,8 @@ fn write_map(
     counts: Counts,
 )
     requires room { Room walk.now.plan.flow s.old }
-    requires fixed { Fixed (all_seen walk.now.plan) s.old walk.now.plan.flow.words walk.now.plan.flow.blocks.count }
+    requires fixed { Fixed (all_seen walk.now.plan) s.old
+        walk.now.plan.flow.words walk.now.plan.flow.blocks.count }
     requires fits { FitsAt walk.now.plan pcs.old bounds.old regs.old counts.points counts.registers }
     ensures { WrittenAt walk.now.plan s.old s.new pcs.old pcs.new bounds.old bounds.new regs.old regs.new (length walk.now.plan.flow.kinds.now) }
 {

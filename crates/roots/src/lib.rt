@@ -48,7 +48,9 @@ pub fn safepoint_block(plan: &Plan, pc: usize) -> Option<usize>
 pub fn live_row(s: &mut [u64], plan: &Plan, b: usize, pc: usize)
     requires nb_value { (b < plan.now.flow.blocks.count) × Room plan.now.flow s.old }
     requires b_bound { (get_or plan.now.flow.blocks.bounds.now (2 * b) 0 ≤ pc) × (pc < get_or plan.now.flow.blocks.bounds.now (2 * b + 1) 0) }
-    ensures { (length s.new ≡ length s.old) × ((q : ℕ) → q < 64 * plan.now.flow.words → cell s.new (walk_row plan.now.flow) q ≡ live_before (all_seen plan.now) b pc q) }
+    ensures { (length s.new ≡ length s.old)
+        × ((q : ℕ) → q < 64 * plan.now.flow.words
+        → cell s.new (walk_row plan.now.flow) q ≡ live_before (all_seen plan.now) b pc q) }
 {
     let Flow {
         registers,
@@ -62,9 +64,11 @@ pub fn live_row(s: &mut [u64], plan: &Plan, b: usize, pc: usize)
     back_at(s, &registers, blocks.count * (3 * words), words, pc, e);
 }
 
-// The registers of the row at `at`, of which there are at most `most`, are listed, if they fit, and the scratch becomes zero.
+// The registers of the row at `at`, of which there are at most `most`, are listed, if they fit, and
+// the scratch becomes zero.
 fn list_at(s: &mut [u64], at: usize, words: usize, most: usize, regs: &mut [u32]) -> Reply
-    requires { (at + words ≤ length s.old) × (words ≤ 256) × (length (listed 64 (take ((at + words) - at) (drop at s.old))) ≤ most) }
+    requires { (at + words ≤ length s.old) × (words ≤ 256)
+        × (length (listed 64 (take ((at + words) - at) (drop at s.old))) ≤ most) }
     ensures { (told result ≡ answered here nothing (listing 64 (take ((at + words) - at) (drop at s.old)) (length regs.old)))
         × (regs.new ≡ listed_into 64 (take ((at + words) - at) (drop at s.old)) regs.old)
         × (s.new ≡ replicate (length s.old) 0) }

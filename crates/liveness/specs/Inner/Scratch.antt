@@ -1,5 +1,6 @@
--- What the inner functions ensure of the scratch. Block b has three rows of W words at b * (3 * W): live-in, kill and live-out. After the rows of the last
--- block comes the row that is walked back through one block, and one that no step needs.
+-- What the inner functions ensure of the scratch. Block b has three rows of W words at b * (3 * W):
+-- live-in, kill and live-out. After the rows of the last block comes the row that is walked back
+-- through one block, and one that no step needs.
 use Rattle.std.specs.Prelude.{◌≡◌, ◌⊎◌, Bool, true, false, ◌&&◌, List, [], ◌∷◌, ℕ, ◌+◌, ◌-◌, ◌*◌, ◌/◌, ◌%◌, ◌≤◌, ◌<◌, length, get_or, take, ltb, if◌then◌else◌}
 use Rattle.word.specs.Inner.Bit.{bit}
 use Rattle.rows.specs.Inner.Row.{listed}
@@ -29,8 +30,8 @@ one_below t n = if◌then◌else◌ (ltb t n) (t ∷ []) []
 abbrev pub set_bits : ℕ → List ℕ → ℕ
 set_bits k s = length (listed 64 (take k s))
 
--- the live-in rows have gen, the kill rows are right, r is live into each block whose live-in row has it, and a live-out row has it only if one of the blocks
--- after has it in its live-in row
+-- the live-in rows have gen, the kill rows are right, r is live into each block whose live-in row
+-- has it, and a live-out row has it only if one of the blocks after has it in its live-in row
 pub record Rows (f : Function) (s : List ℕ) (W nb : ℕ) : Type 0 where
   pub gens : (b q : ℕ) → b < nb → q < 64 * W → gen f q b ≡ true → live_at s W nb q b ≡ true
   pub kills : (b q : ℕ) → b < nb → q < 64 * W → cell s (b * (3 * W) + W) q ≡ kill f q b
