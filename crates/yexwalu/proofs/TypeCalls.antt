@@ -5,7 +5,7 @@ use mir.Val.{bool_byte}
 use mathlib.Core.List.{List}
 use Prim.Native.Nat.{ℕ}
 use Rattle.std.specs.Prelude.{Ok}
-use Rattle.word.specs.Result.{Result, ok, refused}
+use Rattle.word.specs.Result.{Result, refused}
 use Rattle.refusal.specs.Told.{told as told_reply, answered, refused_by, here, nothing}
 use Rattle.refusal.specs.declared.Answer.{Answer}
 use Rattle.ty.specs.Check.{table_good}
@@ -13,7 +13,6 @@ use Rattle.ty.specs.Walks.{has_handles}
 use Rattle.ty.specs.DescSize.{desc_size}
 use Rattle.ty.specs.View.{types_of, table_of}
 use Rattle.layout.specs.Offsets.{Values, layout_call, written_by}
-use Rattle.layout.specs.Inner.Told.{told}
 use Rattle.yexwalu.specs.Table.{on_table}
 use Rattle.yexwalu.specs.Types.{laid, layout_called, size_called, handles_called}
 use Rattle.held_types.specs.declared.Laying.{Laying as LayoutAnswer}
