@@ -2,21 +2,30 @@
 """shelf.py --shelf crates/shelf/out/shelf [--seeds A-B] [--million]    the program `shelf` against a model of it
 shelf.py --sample                                              writes crates/shelf/stdin and stdout
 
-The model is written from request [14] and docs/FORMAT.md alone: which texts are pages, which heaps are well formed, and what is printed. Inputs: every kind of page and of length line,
+The model is written from docs/FORMAT.md alone, section 16 for the shelf: which texts are pages, which heaps are well formed, and what is printed. Inputs: every kind of page and of length line,
 a small shelf cut off at every byte, random shelves in parts of any length, reads that fail, and with --million one of 1,000,000 empty pages and more."""
-import argparse, os, random, resource, subprocess, sys, threading, time
+import argparse, os, random, resource, struct, subprocess, sys, threading, time
 
 NAMES = b"tag,since_gc,reclaim_at,live_bytes,slots,free,quarantine,sealed"
-COLUMNS = b"generation,kind,type,start,%s,data"
+COLUMNS = b"generation,kind,type,start,%s,%s"
 HEAD = b"page,answer,objects,bytes,largest,mean,rest\n"
 LAST = 2**32 - 1
 
 
-def page(slots, free=(), quarantine=(), sealed=(), retired=None, tag=1, since=0, reclaim=4096, live=0, writes=b"writes"):
-    """a page; its names line has `retired` where that list is given"""
+def planes(data):
+    """an object's bytes in byte planes: each word less the one before it, then the lowest bytes of all words in turn, up to the highest; the bytes after the last whole word follow"""
+    n = len(data) // 8
+    words = [0, *struct.unpack_from(b"<%dQ" % n, data)]
+    less = [(b - a) % 2**64 for a, b in zip(words, words[1:])]
+    return bytes(d >> 8 * j & 255 for j in range(8) for d in less) + data[8 * n :]
+
+
+def page(slots, free=(), quarantine=(), sealed=(), retired=None, tag=1, since=0, reclaim=4096, live=0, writes=b"writes", column=b"data"):
+    """a page; its names line has `retired` where that list is given. Slots have their data in hexadecimal, which with the column `planes` is put into byte planes"""
+    spelled = lambda data: planes(bytes.fromhex(data.decode())).hex().encode() if column == b"planes" else data
     lists = [(b"free", free), (b"quarantine", quarantine), (b"sealed", sealed)] + ([] if retired is None else [(b"retired", retired)])
     head = b",".join(b"%d" % x for x in [tag, since, reclaim, live, len(slots)] + [len(xs) for _, xs in lists])
-    lines = [NAMES if retired is None else NAMES + b",retired", head, COLUMNS % writes] + [b"%d,%d,%d,%d,%d,%s" % s for s in slots]
+    lines = [NAMES if retired is None else NAMES + b",retired", head, COLUMNS % (writes, column)] + [b"%d,%d,%d,%d,%d,%s" % (*s[:5], spelled(s[5])) for s in slots]
     for name, xs in lists:
         lines += [name] + [b"%d" % x for x in xs]
     return b"".join(x + b"\n" for x in lines)
@@ -66,7 +75,7 @@ def heap_of(text):
     tag, since, reclaim, live = (number(f, 2**w - 1) for f, w in zip(fields[:4], (8, 64, 64, 64)))
     n, f, q, z, *w = (number(x, 2**32 - 1) for x in fields[4:])
     names = row()
-    if names not in (COLUMNS % b"writes", COLUMNS % b"writes64"):
+    if names not in [COLUMNS % (w, c) for w in (b"writes", b"writes64") for c in (b"data", b"planes")]:
         raise NoPage
     slots, bits = [], 64 if b"64" in names else 32
     for _ in range(n):
@@ -158,6 +167,11 @@ MOVED = page(OLD, [1, 0], writes=b"writes64")
 WORN = [page(OLD, [1, 0], retired=[], writes=b"writes64"), page(OLD, [0], retired=[1], writes=b"writes64"), page(OLD, [1], retired=[0, 0], writes=b"writes64")]
 # the name without its list, and the list without its name
 HALF = [RETIRED.replace(b"retired\n0\n", b""), MOVED + b"retired\n"]
+# byte planes, which are as long as the data: two words and three bytes, one word, no whole word, a dead slot; with the earlier names and the later; one digit missing; the column under both names
+WORDS = [(1, 2, 0, 0, 3, b"07000000000000000900000000000000010203"), (1, 3, 0, 8, 0, b"ffffffffffffffff"), (2, 0, 0, 0, 0, b""), (1, 1, 5, 0, 1, b"fe01")]
+PLANES = page(WORDS, [2], column=b"planes")
+BOTH = page(WORDS, [2], retired=[], writes=b"writes64", column=b"planes")
+ODD = [BOTH.replace(b",fe01\n", b",fe0\n"), BOTH.replace(b",planes\n", b",planes,data\n")]
 
 
 def longest():
@@ -171,7 +185,7 @@ def longest():
 def sample():
     long = longest()
     assert len(long) == 32768
-    data = b"".join(map(put, (SMALL, MIXED, page([]), b"", b"no page\n", BROKEN, long, long + b"\n", SMALL, RETIRED, MOVED, page([], retired=[]), *WORN, *HALF))) + b"100\n" + SMALL[:50]
+    data = b"".join(map(put, (SMALL, MIXED, page([]), b"", b"no page\n", BROKEN, long, long + b"\n", SMALL, RETIRED, MOVED, page([], retired=[]), *WORN, *HALF, PLANES, BOTH, *ODD))) + b"100\n" + SMALL[:50]
     open("crates/shelf/stdin", "wb").write(data)
     open("crates/shelf/stdout", "wb").write(model(data))
 
@@ -208,7 +222,7 @@ def fails(shelf, data):
 
 
 def wild(r):
-    kinds = [SMALL, MIXED, page([]), b"", BROKEN, RETIRED, MOVED, *WORN, *HALF, longest(), longest() + b"\n", os.urandom(r.randrange(40))]
+    kinds = [SMALL, MIXED, page([]), b"", BROKEN, RETIRED, MOVED, *WORN, *HALF, PLANES, BOTH, *ODD, longest(), longest() + b"\n", os.urandom(r.randrange(40))]
     out = b""
     for _ in range(r.randrange(12)):
         p = r.choice(kinds)

@@ -112,9 +112,9 @@ def together(replay, turns):
         for table in good:
             slot = reader.fits(reader.read_page(text), table)
             lines += [b"load 64 " + text.replace(b"\n", b";"), b"readtable " + printed(table).replace(b"\n", b";"), b"traceable"]
-            mine.append("0" if slot is None else f"13 {slot}")
+            mine.append("0 1 0" if slot is None else f"0 0 {slot}")
     for g, m in zip(ask(replay, lines)[2::3], mine):
-        asked, fit = asked + 1, fit + (m == "0")
+        asked, fit = asked + 1, fit + (m == "0 1 0")
         if g.decode() != m:
             wrong += 1
             print("together:", g, m)

@@ -2,7 +2,8 @@
 """script.py: puts the samples of this folder at the end of replay's script and of its answers (crates/replay/stdin and stdout), which the gate compares. Run it when a sample changes.
 
 The answers are not replay's: each is what the file's name, or reader.py, says. Tables are read (`readtable`), good ones written again with their names (`writetable`); pages are read (`load`), good ones
-of today's form written again (`page`); pages and tables that belong together, and one pair that does not, are held against each other (`traceable`). Byte 10 is `;` on a line."""
+of today's form written again (`page`); pages and tables that belong together, and one pair that does not, are held against each other (`traceable`: yes, 1 and 0, or no, 0 and the first slot that
+does not fit). Byte 10 is `;` on a line."""
 import glob
 import os
 
@@ -10,7 +11,8 @@ import reader
 
 here = os.path.dirname(os.path.abspath(__file__))
 MARK = "# The samples of docs/samples: script.py there writes these lines.\n"
-TOGETHER = [("record.page", "record.table", "0"), ("logic.page", "logic.table", "0"), ("process.page", "access.table", "0"), ("shared.page", "access.table", "0"), ("record.page", "logic.table", "13 0")]
+FIT = "0 1 0"
+TOGETHER = [("record.page", "record.table", FIT), ("logic.page", "logic.table", FIT), ("process.page", "access.table", FIT), ("shared.page", "access.table", FIT), ("record.page", "logic.table", "0 0 0")]
 
 
 def text(name):

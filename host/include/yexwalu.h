@@ -6,7 +6,7 @@
  * where the length is 0), memory that a call may write is lent to no other parameter of it, and a bool is 0 or 1. Calls allocate nothing, keep no pointer, have no
  * state of their own. A call takes at most 128 KB of stack (YEXWALU_STACK_KB): measured by host/c/stack.c, not proved.
  *
- * An answer has document 01's number, 0 for success, and up to two values, zeros after a refusal but 13 of traceable. A refusal changes nothing, but 5 in alloc and
+ * An answer has a number, 0 for success or that of a refusal, and up to two values, zeros after a refusal. A refusal changes nothing, but 5 in alloc and
  * alloc_from (since_gc), 9 in a write to a live slot with nothing visible (its write count), run, whose lines before the refused one keep their effect, and
  * scratch, which is zero after all answers but 18. Numbers after a call's comment are its refusals.
  *
@@ -475,8 +475,8 @@ yexwalu_answer yexwalu_slot_handles(
     uint64_t *work, size_t work_len);
 
 /*
- * Do a heap and a type table fit together: has every object of kind Typed a type of the table, and can its handles be traced? 18, 1, 10, 13. After 13, first: the first slot that does not
- * fit; no other refusal has a value.
+ * Do a heap and a type table fit together: has every object of kind Typed a type of the table, and can its handles be traced? first: 1 yes, 0 no. second: after no, the first slot that
+ * does not fit; 0 after yes. 18, 1, 10.
  */
 yexwalu_answer yexwalu_traceable(
     const uint64_t *types, size_t types_len,

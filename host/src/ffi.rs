@@ -78,7 +78,7 @@ pub struct Figures {
     pub largest: u64,
 }
 
-/// Document 01's number, 0 for success, and the values, zeros after a refusal but 13 of `traceable`, which has the slot.
+/// A number, 0 for success or that of a refusal, and the values, zeros after a refusal.
 #[repr(C)]
 #[derive(Clone, Copy, Debug, PartialEq, Eq)]
 pub struct Answer {
@@ -204,7 +204,7 @@ heap_calls! {
     /// See [`Heap::slot_handles_into`](crate::Heap::slot_handles_into).
     yexwalu_slot_handles(types: *const u64, types_len: usize, fields: *const u32, fields_len: usize, consts: *const u64, consts_len: usize, bytes: *const u8, bytes_len: usize, heap: Header;
         slot: usize, out: *mut u64, out_len: usize;) -> Answer;
-    /// See [`Heap::misfit`](crate::Heap::misfit).
+    /// See [`Heap::misfit`](crate::Heap::misfit): 1 and 0 where every slot fits, else 0 and the first that does not.
     yexwalu_traceable(types: *const u64, types_len: usize, fields: *const u32, fields_len: usize, consts: *const u64, consts_len: usize, bytes: *const u8, bytes_len: usize, heap: Header;;) -> Answer;
     /// See [`Heap::page_length_with`](crate::Heap::page_length_with).
     yexwalu_page_length(heap: Header; planar: bool;) -> Answer;

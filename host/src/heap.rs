@@ -1366,11 +1366,8 @@ impl Heap {
     /// ```
     pub fn misfit(&self, types: &(impl AnyTable + ?Sized)) -> Result<Option<Slot>, Refusal> {
         let answer = ask_typed!(self, types, yexwalu_held_traceable() |_s| (), yexwalu_traceable);
-        if answer.number == Refusal::Untraceable.number() {
-            return Ok(Some(Slot(answer.first as u32)));
-        }
-        self.told(answer)?;
-        Ok(None)
+        let (fits, slot) = self.told(answer)?;
+        Ok((fits == 0).then_some(Slot(slot as u32)))
     }
 
     /// The heap as a page of text, without epoch and log (docs/FORMAT.md).

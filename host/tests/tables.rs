@@ -3,7 +3,7 @@ mod common;
 use common::Random;
 use std::fs;
 use std::path::Path;
-use yexwalu::{ffi, Refusal, TypeTable};
+use yexwalu::{ffi, Header, Heap, Kind, Memory, Refusal, Slot, TypeTable};
 
 // The sample tables by their names: those that are refused begin with their refusal's number.
 fn samples() -> Vec<(String, Vec<u8>)> {
@@ -171,4 +171,57 @@ fn damaged_tables() {
         }
     }
     assert!(taken > 0 && refused > 0);
+}
+
+// The numbers that `traceable` answers, with so much scratch.
+fn fits(types: &TypeTable, header: Header, memory: &Memory, scratch: usize) -> (u64, u64, u64) {
+    let (mut lent, mut marks, mut work) = (memory.clone(), vec![7; scratch], vec![7; scratch]);
+    // SAFETY: each pointer leads to as many elements as the length after it says, and what the call writes is lent once.
+    let answer = unsafe {
+        ffi::yexwalu_traceable(
+            types.types.as_ptr(),
+            types.types.len(),
+            types.fields.as_ptr(),
+            types.fields.len(),
+            types.consts.as_ptr(),
+            types.consts.len(),
+            types.bytes.as_ptr(),
+            types.bytes.len(),
+            header,
+            lent.narrow.as_mut_ptr(),
+            lent.narrow.len(),
+            lent.wide.as_mut_ptr(),
+            lent.wide.len(),
+            lent.pool.as_mut_ptr(),
+            lent.pool.len(),
+            marks.as_mut_ptr(),
+            marks.len(),
+            work.as_mut_ptr(),
+            work.len(),
+        )
+    };
+    assert!(lent == *memory);
+    (answer.number, answer.first, answer.second)
+}
+
+#[test]
+fn a_heap_that_does_not_fit_is_no_refusal() {
+    let mut table = TypeTable::new();
+    let access = table.access();
+    let mut heap = Heap::new(1, 4, 64).unwrap();
+    heap.alloc(Kind::Bytes, b"AB").unwrap();
+    heap.alloc(Kind::Typed(access), &[0; 8]).unwrap();
+    assert_eq!(fits(&table, *heap.header(), heap.memory(), 4), (0, 1, 0));
+    assert_eq!(fits(&TypeTable::new(), *heap.header(), heap.memory(), 4), (0, 0, 1));
+    // the first of two that do not fit; before it a refusal, which has no value
+    heap.alloc(Kind::Typed(access), &[0; 7]).unwrap();
+    heap.alloc(Kind::Typed(9), &[]).unwrap();
+    assert_eq!(fits(&table, *heap.header(), heap.memory(), 4), (0, 0, 2));
+    assert_eq!(heap.misfit(&table), Ok(Some(Slot(2))));
+    assert_eq!(fits(&table, *heap.header(), heap.memory(), 3), (18, 0, 0));
+    let mut broken = *heap.header();
+    broken.reclaim_at = 1;
+    assert_eq!(fits(&table, broken, heap.memory(), 4), (1, 0, 0));
+    table.types[0] = 9;
+    assert_eq!(fits(&table, *heap.header(), heap.memory(), 4), (10, 0, 0));
 }

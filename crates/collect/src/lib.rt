@@ -18,7 +18,8 @@ use ty::Table;
 
 pub mod joined; // at a safepoint, from the frame and the live registers
 
-// What follows a marking: the objects without a mark are dropped, and the quarantined slots that are not pinned become free, unless an object can't be traced.
+// What follows a marking: the objects without a mark are dropped, and the quarantined slots that are
+// not pinned become free, or retire where they are worn out, unless an object can't be traced.
 fn sweep_after<P: Pinned>(
     marked: Result<(), Refusal>,
     lent: &mut ViewMut,

@@ -258,7 +258,8 @@ pub fn yexwalu_write(
     }
 }
 
-// A new handle for slot `i`, also for a dead one, which its handle then does not lead to. First: the handle.
+// A new handle for the live slot `i`, whose earlier handles then lead nowhere: 9 for a missing or dead
+// slot, 20 for a worn-out one. First: the handle.
 pub fn yexwalu_reissue(
     heap: Heap,
     narrow: &mut [u32],

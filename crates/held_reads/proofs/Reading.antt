@@ -3,6 +3,7 @@ use Prim.Native.Nat.{ℕ}
 use Rattle.word.specs.Result.{Result, ok}
 use Rattle.refusal.specs.Told.{told, answered, here, nothing, Reply}
 use Rattle.refusal.specs.declared.Answer.{Answer}
+use Rattle.std.specs.Prelude.{Ok}
 use Rattle.ty.specs.Types.{Table}
 use Rattle.traced.specs.Listing.{written_to}
 use Rattle.traced.specs.Inner.Lists.{Lists}
@@ -14,7 +15,7 @@ use Rattle.pages.specs.Page.{page_text}
 use Rattle.pages.specs.Answer.{text_answer, text_out}
 use Rattle.pages.specs.Inner.PageWritten.{PageWritten}
 use Rattle.heap.specs.State.{State}
-use Rattle.slot_door.specs.Traceable.{misfit, misfit_told}
+use Rattle.slot_door.specs.Traceable.{misfit, fit_number, misfit_number, fitting}
 use mathlib.Core.Path.{◌≡◌, ap, subst, ◌∙◌}
 use mathlib.Core.Bool.{Bool}
 use mathlib.Core.List.{List}
@@ -29,8 +30,9 @@ module _ (l : Lent) (v : View) (q : seen v ≡ l) where
       let p : Lists (call (view l)) reply out out' = subst (λ (k : Lent). Lists (call (view k)) reply out out') q d in
       (t ∙ p.answer, p.written)
 
-  pub fits : (T : Table) {r : Answer} → r ≡ misfit_told (misfit T (state v)) → r ≡ misfit_told (misfit T (view l))
-  fits T d = d ∙ ap (λ (k : Lent). misfit_told (misfit T (view k))) q
+  pub fits : (T : Table) {p : ℕ × ℕ} {r : Answer} → p ≡ (fit_number (misfit T (state v)), misfit_number (misfit T (state v))) → r ≡ told (Ok p)
+      → r ≡ answered fit_number misfit_number (fitting T (view l))
+  fits T d t = t ∙ (ap (λ (x : ℕ × ℕ). told (Ok x)) d ∙ ap (λ (k : Lent). answered fit_number misfit_number (fitting T (view k))) q)
 
 -- ---- the page
 

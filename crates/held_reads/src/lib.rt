@@ -14,7 +14,7 @@ ghost use Rattle.held.specs.Held.{in_place};
 ghost use Rattle.ty.specs.View.{table_of};
 ghost use Rattle.traced.specs.Listing.{written_to};
 ghost use Rattle.slot_door.specs.SlotHandles.{slot_handles};
-ghost use Rattle.slot_door.specs.Traceable.{misfit, misfit_told};
+ghost use Rattle.slot_door.specs.Traceable.{fit_number, misfit_number, fitting};
 
 use held::see;
 use refusal::Answer;
@@ -56,7 +56,9 @@ pub fn yexwalu_held_slot_handles(
     Answer::from(slot_door::list_slot(&table, view, slot, out))
 }
 
-// Do the heap and a type table fit together: has every object of kind Typed a type of the table, and can its handles be traced? 13. After it, first: the first slot that does not fit.
+// Do the heap and a type table fit together: has every object of kind Typed a type of the table, and
+// can its handles be traced? first: 1 yes, 0 no. second: after no, the first slot that does not fit;
+// 0 after yes.
 // Kept: the C interface lends the header and the heap in parts, and what a call here requires is said of these.
 pub fn yexwalu_held_traceable(
     types: &[u64],
@@ -72,7 +74,8 @@ pub fn yexwalu_held_traceable(
     pool: &[u8],
 ) -> Answer
     requires { well_formed (in_place tag.now numbers.now log.now lengths.now narrow.now wide.now pool.now) ≡ true }
-    ensures { result ≡ misfit_told (misfit (table_of types.now fields.now consts.now bytes.now)
+    ensures { result ≡ answered fit_number misfit_number (fitting
+        (table_of types.now fields.now consts.now bytes.now)
         (view (in_place tag.now numbers.now log.now lengths.now narrow.now wide.now pool.now))) }
 {
     let table = Table {
@@ -82,7 +85,7 @@ pub fn yexwalu_held_traceable(
         bytes,
     };
     let view = see(tag, numbers, log, lengths, narrow, wide, pool);
-    slot_door::find_misfit(&table, view)
+    Answer::from(Ok(slot_door::find_misfit(&table, view)))
 }
 
 // First: how many bytes the heap's page has, with byte planes or data.

@@ -31,7 +31,7 @@ pub record Scratch : Type 0 where
 abbrev pub lending : (marks work : List ℕ) → Scratch
 lending marks work = record { marks = marks; work = work; rows = []; room = [] }
 
--- Each call with its arguments. `alloc` is `allocFrom` with start 0. `question` is each call that is lent a heap to read: what it asks beside scratch and heap, and what
+-- Each call with its arguments. `alloc` is `alloc_from` with start 0. `question` is each call that is lent a heap to read: what it asks beside scratch and heap, and what
 -- it asks of the heap.
 pub data Call : Type 0 where
   alloc_from : (kind type start : ℕ) (bytes : List ℕ) → Call

@@ -244,7 +244,8 @@ pub fn yexwalu_free(
     }
 }
 
-// Pinned slots stay in quarantine, in order; the others join the free list.
+// Pinned slots stay in quarantine, in order; the others join the free list, or the retired list where
+// they are worn out.
 pub fn yexwalu_recycle(
     heap: Heap,
     narrow: &mut [u32],

@@ -8,7 +8,7 @@ use Rattle.page_parser.specs.Contents.{form_in}
 use Rattle.page_check.specs.Verdict.{verdict}
 use Rattle.pages.specs.Reading.{read_page}
 
--- the lengths of what is lent are right (`sizesFit`), said of the runs: S and pool in range, the last run of either list has S entries, and nothing lies past them
+-- the lengths of what is lent are right (`sizes_fit`), said of the runs: S and pool in range, the last run of either list has S entries, and nothing lies past them
 unfoldable pub in_range : Lent → Bool
 in_range l =
     leb 1 (slot_count l) && leb (slot_count l) 16777216 && leb (pool_size l) 1073741824

@@ -22,5 +22,3 @@ abbrev pub Within : Line → Type 0
 Within (alloc t k bs) = (t < 2 ^ 32) × ((k < 2 ^ 8) × Bytes bs)
 Within (store a b o) = (a < 2 ^ 64) × ((b < 2 ^ 64) × (o < 2 ^ 64))
 Within (drop a) = a < 2 ^ 64
-
--- ---- reading a line, with the rest of the text

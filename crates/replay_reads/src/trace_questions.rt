@@ -1,5 +1,5 @@
 // The commands of the program `replay` that trace a heap by the type table and leave it as it is: the handles of a slot, the roots for wanted slots, and whether all slots can be traced.
-use answers::{List, front, put_told};
+use answers::{List, front, put_answer, put_told};
 use fields::Fields;
 use protocol::{Fault, NoCommand};
 use refusal::Answer;
@@ -87,7 +87,7 @@ fn show_roots(
     put_list(rt, a, &out)
 }
 
-// Whether the heap and the table fit together.
+// Whether the heap and the table fit together, and the first slot that does not fit.
 fn traceable(kept: &Kept, t: &Table) -> Answer {
     let mut s = Scratch::new();
     handles::traceable(
@@ -102,15 +102,6 @@ fn traceable(kept: &Kept, t: &Table) -> Answer {
         &mut s.marks,
         &mut s.work,
     )
-}
-
-// The same, printed: with the first slot that does not, where there is one.
-fn show_traceable(rt: &impl Print, kept: &Kept, t: &Table) -> io::Result<()> {
-    let a = traceable(kept, t);
-    match a.number {
-        13 => println!(rt; "13 {}", a.first),
-        number => println!(rt; "{number}"),
-    }
 }
 
 /// Answers a question.
@@ -128,7 +119,7 @@ pub fn answer(
             let wanted = line.halves(MOST_LISTED.saturating_sub(pins.len()))?;
             show_roots(rt, kept, t, &pins, &wanted)?;
         }
-        Question::Traceable => show_traceable(rt, kept, t)?,
+        Question::Traceable => put_answer(rt, traceable(kept, t), 2)?,
     }
     Ok(())
 }

@@ -2,35 +2,34 @@
 use Prim.Native.Nat.{ℕ, suc, ◌+◌, ◌-◌, ◌*◌, ◌/◌, ◌≤◌, ◌<◌}
 use Rattle.word.proofs.ListLaws.{length-tabulate, get_d_tabulate}
 use Rattle.word.proofs.RunLaws.{run-get}
-use Rattle.refusal.specs.Told.{number_of, refused_by, told, answered, nothing, Reply}
+use Rattle.refusal.specs.Told.{told, answered, nothing, Reply}
 use Rattle.refusal.specs.declared.Answer.{Answer}
 use Rattle.refusal.specs.declared.Refusal.{Refusal}
 use Rattle.refusal.specs.declared.Refusal.TheVariants.{Untraceable}
 use Rattle.refusal.proofs.Numbers.{told-once}
-use Rattle.std.specs.Prelude.{Ok, Err, if◌then◌else◌, Option as Outcome}
-use Rattle.word.specs.Result.{ok, refused}
+use Rattle.std.specs.Prelude.{Ok, Err, if◌then◌else◌}
+use Rattle.word.specs.Result.{Result, ok, refused}
 use Rattle.ty.specs.Types.{Table}
 use Rattle.ty.specs.View.{table_of}
 use Rattle.ty.specs.declared.Table.{Table as Columns}
-use Rattle.heap.specs.State.{Slot, no_slot, slot_at}
+use Rattle.heap.specs.State.{State, Slot, no_slot, slot_at}
 use Rattle.heap.specs.Lent.{Lent, slot_in, view}
 use Rattle.heap.specs.Inner.Seen.{seen, state}
 use Rattle.heap.specs.declared.view.View.{View}
 use Rattle.traced.specs.Listing.{listing}
 use Rattle.traced.specs.Inner.Lists.{Lists}
 use Rattle.collection.specs.Shown.{shown}
-use Rattle.door.specs.HeapCalls.{asked, asked_of, scratch_after, zeros, Entry, ready}
-use Rattle.door.proofs.Entering.{whether-not, whether-ready, cleared-in}
+use Rattle.door.specs.HeapCalls.{asked, Entry, ready}
+use Rattle.door.proofs.Entering.{ask-refused, ask-ready}
 use Rattle.slot_door.specs.SlotHandles.{slot_tests}
-use Rattle.slot_door.specs.Traceable.{traced, fits_table, first_failing, misfit, misfit_told, trace_call}
-use Rattle.slot_door.specs.Inner.Misfit.{misfit_in}
+use Rattle.slot_door.specs.Traceable.{traced, fits_table, first_failing, misfit, fit_number, misfit_number, fitting, trace_call}
 use Rattle.slot_door.proofs.SlotCalls.{fit-of}
 use Rattle.door.specs.Inner.Entered.{Entered}
 use Rattle.ty.specs.Inner.Lent.{lent as table_in}
 use Rattle.ty.proofs.Lookup.{length_types}
 use mathlib.Core.Path.{◌≡◌, refl, sym, ap, ◌∙◌}
 use mathlib.Core.Bool.{Bool, true, false}
-use mathlib.Core.List.{List, [], ◌∷◌, map}
+use mathlib.Core.List.{List, [], ◌∷◌}
 use mathlib.Core.Option.{Option, none, some}
 use native.Mathlib.Omega.{arith}
 use lib.Dec.{eqb, leb}
@@ -151,24 +150,23 @@ module _ (v : View) (T : Table) where
     pub found_none : v.heap.slots ≤ i → none ≡ misfit T (state v)
     found_none b = sym (misfit-is ∙ passed-all (fits_table T (state v)) v.heap.slots i p b)
 
--- what is told of it
-pub misfit-none : {o m : Option ℕ} {a : Answer} → o ≡ m → o ≡ none → a ≡ told (Ok (0, 0)) → a ≡ misfit_told m
-misfit-none p q t = t ∙ ap misfit_told (sym q ∙ p)
+-- the two numbers that are told of it
+pub fitting-none : {o m : Option ℕ} → o ≡ m → o ≡ none → ◌≡◌ {A = ℕ × ℕ} (1, 0) (fit_number m, misfit_number m)
+fitting-none p q = ap (λ (x : Option ℕ). (fit_number x, misfit_number x)) (sym q ∙ p)
 
-pub misfit-some : {o m : Option ℕ} {a : Answer} (i : ℕ) → o ≡ m → o ≡ some i → a ≡ told (Err Untraceable) → ◌≡◌ {A = Answer} (record { number = a.number; first = i; second = a.second }) (misfit_told m)
-misfit-some i p q t = ap (λ (x : Answer). record { number = x.number; first = i; second = x.second }) t ∙ ap misfit_told (sym q ∙ p)
+pub fitting-some : {o m : Option ℕ} (i : ℕ) → o ≡ m → o ≡ some i → ◌≡◌ {A = ℕ × ℕ} (0, i) (fit_number m, misfit_number m)
+fitting-some i p q = ap (λ (x : Option ℕ). (fit_number x, misfit_number x)) (sym q ∙ p)
 
 -- ---- the public call
 
 module _ (l : Lent) (types fields consts bytes : List ℕ) {m w m' w' : List ℕ} {e : Entry} (s : Entered (m ∷ w ∷ []) (slot_tests types fields consts bytes m w l) e (m' ∷ w' ∷ [])) where
-  pub trace-refused : {why : Refusal} {r : Answer} → e ≡ Err why → r ≡ told (Err why) → asked r m' w' ≡ trace_call types fields consts bytes m w l
-  trace-refused i t =
-      (λ j. asked_of (t j) ((s.left ∙ ap (λ (x : Entry). scratch_after x (m ∷ w ∷ [])) i) j))
-      ∙ sym (whether-not s (λ why. asked_of (refused_by (number_of why)) (scratch_after (Err why) (m ∷ w ∷ []))) (asked_of (misfit_told (misfit (table_of types fields consts bytes) (view l))) (map zeros (m ∷ w ∷ []))) i)
+  abbrev asks : State → Result (Option ℕ)
+  asks = fitting (table_of types fields consts bytes)
 
-  pub trace-done : (v : View) → seen v ≡ l → {r : Answer} → e ≡ ready → r ≡ misfit_told (misfit (table_of types fields consts bytes) (state v))
-      → asked r m' w' ≡ trace_call types fields consts bytes m w l
-  trace-done v q i t =
-      let z : misfit (table_of types fields consts bytes) (state v) ≡ misfit (table_of types fields consts bytes) (view l) = ap (λ (k : Lent). misfit (table_of types fields consts bytes) (view k)) q in
-      (λ j. asked_of ((t ∙ ap misfit_told z) j) (cleared-in s i j))
-      ∙ sym (whether-ready s (λ why. asked_of (refused_by (number_of why)) (scratch_after (Err why) (m ∷ w ∷ []))) (asked_of (misfit_told (misfit (table_of types fields consts bytes) (view l))) (map zeros (m ∷ w ∷ []))) i)
+  pub trace-refused : {why : Refusal} {r : Answer} → e ≡ Err why → r ≡ told (Err why) → asked r m' w' ≡ trace_call types fields consts bytes m w l
+  trace-refused i t = ask-refused s fit_number misfit_number l asks i t
+
+  pub trace-done : (v : View) → seen v ≡ l → {p : ℕ × ℕ} {r : Answer} → e ≡ ready → p ≡ (fit_number (misfit (table_of types fields consts bytes) (state v)), misfit_number (misfit (table_of types fields consts bytes) (state v)))
+      → r ≡ told (Ok p) → asked r m' w' ≡ trace_call types fields consts bytes m w l
+  trace-done v q {p} i d t =
+      ask-ready s fit_number misfit_number l asks i (ap (λ (x : ℕ × ℕ). told (Ok x)) d ∙ ap (λ (k : Lent). answered fit_number misfit_number (asks (view k))) q) t

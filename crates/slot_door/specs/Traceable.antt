@@ -1,16 +1,15 @@
--- `traceable`: do a heap and a type table fit together (01, "Traced handles")? Every object of kind Typed has a type of the table, and its handles can be traced. 18, 1, 10, and 13 with the
--- first slot that does not fit.
-use Rattle.std.specs.Prelude.{ℕ, zero, suc, Bool, true, false, ◌&&◌, List, [], ◌∷◌, map, eqb, ltb, length, if◌then◌else◌}
+-- `traceable`: do a heap and a type table fit together? They do if every object of kind Typed has a
+-- type of the table and its handles can be traced. Where no test fails the number is 0, and the answer
+-- yes, or no with the first slot that does not fit.
+use Rattle.std.specs.Prelude.{ℕ, zero, suc, Bool, true, false, ◌&&◌, List, [], ◌∷◌, eqb, ltb, length, if◌then◌else◌}
 use Rattle.std.proofs.Math.Option.{Option, none, some}
-use Rattle.refusal.specs.Told.{number_of, refused_by}
-use Rattle.refusal.specs.declared.Answer.{Answer}
+use Rattle.word.specs.Result.{Result, ok}
 use Rattle.ty.specs.Types.{Table}
 use Rattle.ty.specs.View.{table_of}
 use Rattle.heap.specs.State.{State, slot_at}
-use Rattle.heap.specs.Lent.{Lent, view}
+use Rattle.heap.specs.Lent.{Lent}
 use Rattle.collection.specs.Shown.{shown}
-use Rattle.door.specs.HeapCalls.{admitted, whether, scratch_after, zeros, Asked, asked_of}
-use Rattle.std.specs.Prelude.{Err}
+use Rattle.door.specs.HeapCalls.{Asked, asking}
 use Rattle.slot_door.specs.SlotHandles.{slot_tests}
 
 -- the handles can be traced
@@ -30,14 +29,23 @@ first_failing test (suc n) i = if test i then first_failing test n (suc i) else 
 abbrev pub misfit : Table → State → Option ℕ
 misfit T h = first_failing (fits_table T h) (length h.slots) 0
 
--- the slot is told beside the refusal
-abbrev pub misfit_told : Option ℕ → Answer
-misfit_told none = refused_by 0
-misfit_told (some i) = record { number = 13; first = i; second = 0 }
+-- ---- what is answered
+
+-- do all slots fit? 1 yes, 0 no
+abbrev pub fit_number : Option ℕ → ℕ
+fit_number none = 1
+fit_number (some i) = 0
+
+-- the slot that does not fit, 0 where all do
+abbrev pub misfit_number : Option ℕ → ℕ
+misfit_number none = 0
+misfit_number (some i) = i
+
+-- once the tests are passed there is always an answer
+abbrev pub fitting : Table → State → Result (Option ℕ)
+fitting T h = ok (misfit T h)
 
 -- w, fs, cs, b: the table's types, fields, constants and their bytes
 abbrev pub trace_call : (w fs cs b marks work : List ℕ) → Lent → Asked
 trace_call w fs cs b marks work l =
-    whether (admitted (slot_tests w fs cs b marks work l))
-    (λ why. asked_of (refused_by (number_of why)) (scratch_after (Err why) (marks ∷ work ∷ [])))
-    (asked_of (misfit_told (misfit (table_of w fs cs b) (view l))) (map zeros (marks ∷ work ∷ [])))
+    asking fit_number misfit_number (marks ∷ work ∷ []) (slot_tests w fs cs b marks work l) l (fitting (table_of w fs cs b))

@@ -1,5 +1,6 @@
-// The public calls on the slots of a heap and a type table: the handles that a slot shows, in the order in which they are traced (18, 1, 10, 9, 13, 7; after a refusal the lent list is as it was),
-// and whether heap and table fit together (18, 1, 10, 13).
+// The public calls on the slots of a heap and a type table: the handles that a slot shows, in the
+// order in which they are traced (18, 1, 10, 9, 13, 7; after a refusal the lent list is as it was),
+// and whether heap and table fit together (18, 1, 10).
 #![tactic(auto)]
 
 ghost use Rattle.std.specs.Prelude.{◌≡◌, [], ◌∷◌, ◌<◌, length, IfOk};
@@ -9,7 +10,7 @@ ghost use Rattle.heap.specs.Lent.{lent};
 ghost use Rattle.heap.specs.Inner.Seen.{seen, state};
 ghost use Rattle.door.specs.HeapCalls.{asked};
 ghost use Rattle.slot_door.specs.SlotHandles.{slot_handles, slot_tests, slot_call, slot_out};
-ghost use Rattle.slot_door.specs.Traceable.{fits_table, misfit, trace_call, misfit_told};
+ghost use Rattle.slot_door.specs.Traceable.{fits_table, misfit, fit_number, misfit_number, trace_call};
 ghost use Rattle.slot_door.specs.Inner.Misfit.{misfit_in};
 ghost use Rattle.slot_door.specs.Inner.Objects.{shown_of};
 ghost use Rattle.door.specs.Inner.Entered.{Entered, entry_of};
@@ -156,21 +157,22 @@ fn first_misfit(table: &Table, view: View) -> Option<usize>
     None
 }
 
-// Do a heap and a type table fit together? 13, with the first slot that does not fit.
-// Kept: after the refusal the answer has a slot too, which no `Result` that an `and_then` answers could hold.
-pub fn find_misfit(table: &Table, view: View) -> Answer
-    ensures { result ≡ misfit_told (misfit (table_in table.now) (state view.entry)) }
+// What `traceable` tells: 1 yes, and 0; or 0 no, and the first slot that does not fit.
+pub fn find_misfit(table: &Table, view: View) -> (u64, u64)
+    ensures { result ≡ (
+      fit_number (misfit (table_in table.now) (state view.entry)),
+      misfit_number (misfit (table_in table.now) (state view.entry)),
+    ) }
 {
     match first_misfit(table, view) {
-        None => Answer::from(Ok((0, 0))),
-        Some(i) => Answer {
-            first: i as u64,
-            ..Answer::from(Err(Refusal::Untraceable))
-        },
+        None => (1, 0),
+        Some(i) => (0, i as u64),
     }
 }
 
-// Do a heap and a type table fit together: has every object of kind Typed a type of the table, and can its handles be traced? 18, 1, 10, 13. After 13, first: the first slot that does not fit.
+// Do a heap and a type table fit together: has every object of kind Typed a type of the table, and
+// can its handles be traced? 18, 1, 10. first: 1 yes, 0 no. second: after no, the first slot that
+// does not fit; 0 after yes.
 // Kept: the C interface lends each part by itself.
 pub fn yexwalu_traceable(
     types: &[u64],
@@ -196,6 +198,6 @@ pub fn yexwalu_traceable(
     };
     match admit(&table, heap, narrow, wide, pool, marks, work) {
         Err(why) => Answer::from(Err(why)),
-        Ok(view) => find_misfit(&table, view),
+        Ok(view) => Answer::from(Ok(find_misfit(&table, view))),
     }
 }

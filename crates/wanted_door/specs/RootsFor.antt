@@ -1,5 +1,5 @@
--- Request [10], roots for a wanted set, as a public call: 18, 1, 10, 14, then 21, then 7. What is answered is crate `wanted`'s `rootsFor`, which its laws equate with the best list; and
--- what is right of it is said here once more in the request's words, by what `collect` does with the answer.
+-- Roots for a wanted set as a public call: 18, 1, 10, 14, then 21, then 7. What is answered is crate `wanted`'s `roots_for`, which its laws equate with the best list; and
+-- what is right of it is said here once more by what `collect` does with the answer.
 use Rattle.std.specs.Prelude.{◌≡◌, List, [], ◌∷◌, ◌++◌, map, ◌↔◌, ℕ, ◌<◌, length, leb, if◌then◌else◌, Ok, Err}
 use Rattle.word.specs.Put.{put}
 use Rattle.word.specs.Result.{Result, ok, refused}

@@ -11,7 +11,7 @@ ghost use Rattle.held.specs.Held.{in_place};
 ghost use Rattle.ty.specs.View.{table_of};
 ghost use Rattle.traced.specs.Listing.{written_to};
 ghost use Rattle.slot_door.specs.SlotHandles.{slot_handles};
-ghost use Rattle.slot_door.specs.Traceable.{misfit, misfit_told};
+ghost use Rattle.slot_door.specs.Traceable.{fit_number, misfit_number, fitting};
 
 use refusal::Answer;
 
@@ -59,7 +59,8 @@ pub extern "C" fn yexwalu_held_traceable(
     pool: &[u8],
 ) -> Answer
     requires { well_formed (in_place tag.now numbers.now log.now lengths.now narrow.now wide.now pool.now) ≡ true }
-    ensures { result ≡ misfit_told (misfit (table_of types.now fields.now consts.now bytes.now)
+    ensures { result ≡ answered fit_number misfit_number (fitting
+        (table_of types.now fields.now consts.now bytes.now)
         (view (in_place tag.now numbers.now log.now lengths.now narrow.now wide.now pool.now))) }
 {
     held_reads::yexwalu_held_traceable(

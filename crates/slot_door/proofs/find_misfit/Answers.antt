@@ -1,11 +1,11 @@
 -- `slot_door::find_misfit` meets its contract.
 use mathlib.Core.Path.{ap}
 use Rattle.slot_door.specs.Inner.Misfit.{misfit_in}
-use Rattle.slot_door.proofs.TraceCalls.{misfit-none, misfit-some}
+use Rattle.slot_door.proofs.TraceCalls.{fitting-none, fitting-some}
 use Rattle.slot_door.proofs.find_misfit.Goals as goal
 
 pub returns-in-None : goal.returns-in-None
-returns-in-None c = misfit-none c.first_misfit.ensures (ap misfit_in c.in-None.is) c.from.ensures
+returns-in-None c = fitting-none c.first_misfit.ensures (ap misfit_in c.in-None.is)
 
 pub returns-in-Some : goal.returns-in-Some
-returns-in-Some c = misfit-some c.in-Some.i c.first_misfit.ensures (ap misfit_in c.in-Some.is) c.from-in-Some.ensures
+returns-in-Some c = fitting-some c.in-Some.i c.first_misfit.ensures (ap misfit_in c.in-Some.is)

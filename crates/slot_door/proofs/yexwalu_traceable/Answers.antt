@@ -13,4 +13,4 @@ returns-in-Err c = trace-refused (lent c.args.heap c.args.narrow.now c.args.wide
 pub returns-in-Ok : goal.returns-in-Ok
 returns-in-Ok c =
     trace-done (lent c.args.heap c.args.narrow.now c.args.wide.now c.args.pool.now) c.args.types.now c.args.fields.now c.args.consts.now c.args.bytes.now c.admit.ensures.entered c.in-Ok.view
-    (IfOk-at_ok (λ v. seen v ≡ lent c.args.heap c.args.narrow.now c.args.wide.now c.args.pool.now) c.in-Ok.is c.admit.ensures.shows) (ap entry_of c.in-Ok.is) c.find_misfit.ensures
+    (IfOk-at_ok (λ v. seen v ≡ lent c.args.heap c.args.narrow.now c.args.wide.now c.args.pool.now) c.in-Ok.is c.admit.ensures.shows) (ap entry_of c.in-Ok.is) c.find_misfit.ensures c.from-in-Ok.ensures
