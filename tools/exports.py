@@ -20,6 +20,7 @@ FILES = [
     ("collections", "collect_door/src/lib.rt"),
     ("collections_joined", "collect_door/src/joined.rt"),
     ("roots_wanted", "wanted_door/src/lib.rt"),
+    ("collections_wanted", "wanted_door/src/collecting.rt"),
     ("page_texts", "page_door/src/lib.rt"),
     ("table_texts", "table_door/src/lib.rt"),
     ("slots", "slot_door/src/lib.rt"),

@@ -112,6 +112,7 @@ ASKED(live_at, CODE, true, 8, regs, LIVE, rows, sizeof rows / 8)
 ASKED(live_refs, CODE, true, pcs, BLOCKS, bounds, BLOCKS, regs, LIVE, rows, sizeof rows / 8)
 CHANGED(collect, TABLE, ON, handles, 1, &pin, 1, BY)
 ASKED(roots_for, TABLE, ON, &pin, 1, wanted, 3, out, POOL, BY)
+CHANGED(collect_wanted, TABLE, ON, &pin, 1, wanted, 3, out, POOL, BY)
 CHANGED(collect_joined, TABLE, ON, CODE, 8, values, REGISTERS, map, 9, (const uint8_t *)frame, sizeof frame, &pin, 1, pairs, 2, BY, rows, sizeof rows / 8)
 ASKED(same, TABLE, ON, other, YEXWALU_LISTS(beside), handles, 3, handles, 3, BY, YEXWALU_MARKS(beside))
 ASKED(order, TABLE, ON, other, YEXWALU_LISTS(beside), handles, 3, handles, 3, BY, YEXWALU_MARKS(beside))
@@ -134,7 +135,7 @@ struct call {
 static struct call calls[] = {
     CALL(new, 0), CALL(alloc_from, 0), CALL(alloc, 0), CALL(take, 0), CALL(free, 0), CALL(recycle, 0), CALL(gc_due, 0), CALL(reclaim_due, 0), CALL(has_quarantine, 0), CALL(is_plain, 0), CALL(slots, 0), CALL(live, 0),
     CALL(resolve, 0), CALL(data, 0), CALL(kind, 0), CALL(stamp, 0), CALL(reissue, 0), CALL(edit, 0), CALL(write, 0), CALL(seal, 0), CALL(layout, 0), CALL(desc_size, 0), CALL(has_handles, 0), CALL(slot_handles, 0),
-    CALL(traceable, 0), CALL(object_handles, 0), CALL(value_handles, 0), CALL(slot_roots, 0), CALL(live_at, 0), CALL(live_refs, 0), CALL(collect, 0), CALL(roots_for, 0), CALL(collect_joined, 0), CALL(same, 0), CALL(order, 0),
+    CALL(traceable, 0), CALL(object_handles, 0), CALL(value_handles, 0), CALL(slot_roots, 0), CALL(live_at, 0), CALL(live_refs, 0), CALL(collect, 0), CALL(roots_for, 0), CALL(collect_wanted, 0), CALL(collect_joined, 0), CALL(same, 0), CALL(order, 0),
     CALL(run, 0), CALL(rehearse, 0), CALL(page_length, 0), CALL(write_page, 0), CALL(read_page, 1), CALL(read_page, 2), CALL(write_table, 0), CALL(read_table, 3),
 };
 #define CALLS (sizeof calls / sizeof *calls)

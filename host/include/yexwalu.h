@@ -584,6 +584,26 @@ yexwalu_answer yexwalu_roots_for(
     uint64_t *work, size_t work_len);
 
 /*
+ * Drops every object but those in the slots of `wanted`: finds the roots as roots_for does, and
+ * collects with them and with these pins. The handles of the roots stand at the front of `out`. A
+ * refusal leaves the heap as it was. first: how many roots. 18, 1, 10, 14, 21, 7.
+ */
+yexwalu_done yexwalu_collect_wanted(
+    const uint64_t *types, size_t types_len,
+    const uint32_t *fields, size_t fields_len,
+    const uint64_t *consts, size_t consts_len,
+    const uint8_t *bytes, size_t bytes_len,
+    yexwalu_header heap,
+    uint32_t *narrow, size_t narrow_len,
+    uint64_t *wide, size_t wide_len,
+    uint8_t *pool, size_t pool_len,
+    const uint32_t *pins, size_t pins_len,
+    const uint32_t *wanted, size_t wanted_len,
+    uint64_t *out, size_t out_len,
+    uint8_t *marks, size_t marks_len,
+    uint64_t *work, size_t work_len);
+
+/*
  * As collect, from a stopped function: roots are the live registers of class 4 at the safepoint `pc`, with one value a register (15), and the handles of the frame.
  * `addresses` are pairs of an address and a slot index, addresses strictly rising (14): an address that the frame has (kind 1), or a live register of class 2, pins the
  * slot that it is listed with, as if that slot were among `pins`. Any slot index is taken; one of no slot has no effect. `rows` is scratch for the live registers.

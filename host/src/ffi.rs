@@ -218,6 +218,9 @@ heap_calls! {
     /// See [`Heap::roots_for_into`](crate::Heap::roots_for_into).
     yexwalu_roots_for(types: *const u64, types_len: usize, fields: *const u32, fields_len: usize, consts: *const u64, consts_len: usize, bytes: *const u8, bytes_len: usize, heap: Header;
         pins: *const u32, pins_len: usize, wanted: *const u32, wanted_len: usize, out: *mut u64, out_len: usize;) -> Answer;
+    /// See [`Heap::collect_wanted_into`](crate::Heap::collect_wanted_into).
+    yexwalu_collect_wanted(types: *const u64, types_len: usize, fields: *const u32, fields_len: usize, consts: *const u64, consts_len: usize, bytes: *const u8, bytes_len: usize, heap: Header;
+        pins: *const u32, pins_len: usize, wanted: *const u32, wanted_len: usize, out: *mut u64, out_len: usize;) -> Done;
     /// See [`Heap::same`](crate::Heap::same).
     yexwalu_same(types: *const u64, types_len: usize, fields: *const u32, fields_len: usize, consts: *const u64, consts_len: usize, bytes: *const u8, bytes_len: usize, heap: Header;
         other: Header, other_narrow: *const u32, other_narrow_len: usize, other_wide: *const u64, other_wide_len: usize, other_pool: *const u8, other_pool_len: usize,

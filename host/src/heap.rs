@@ -935,6 +935,44 @@ impl Heap {
         Ok(self.told(answer)?.0 as usize)
     }
 
+    /// Drops every object but those of the wanted slots, then recycles as `recycle` does with these
+    /// pins: finds the roots that `roots_for` answers, and collects with them. The answer is these
+    /// roots. A refusal, which is one of `roots_for`, leaves the heap as it was.
+    ///
+    /// ```
+    /// use yexwalu::{Heap, Kind, Refusal, TypeTable};
+    /// let mut table = TypeTable::new();
+    /// let access = table.access();
+    /// let mut heap = Heap::new(1, 64, 4096)?;
+    /// let held = heap.alloc(Kind::Bytes, b"held")?;
+    /// let root = heap.alloc(Kind::Typed(access), &held.0.to_le_bytes())?;
+    /// let other = heap.alloc(Kind::Bytes, b"other")?;
+    /// let wanted = [heap.resolve(held)?, heap.resolve(root)?];
+    /// assert_eq!(heap.collect_wanted(&table, &[], &wanted[1..]), Err(Refusal::NoRoots));
+    /// assert!(heap.resolve(other).is_ok());
+    /// assert_eq!(heap.collect_wanted(&table, &[], &wanted)?, [root]);
+    /// assert!(heap.resolve(held).is_ok());
+    /// assert_eq!(heap.resolve(other), Err(Refusal::Stale));
+    /// # Ok::<(), Refusal>(())
+    /// ```
+    pub fn collect_wanted(&mut self, types: &(impl AnyTable + ?Sized), pins: &[Slot], wanted: &[Slot]) -> Result<Vec<Handle>, Refusal> {
+        let mut out = vec![0; wanted.len()];
+        let n = self.collect_wanted_into(types, pins, wanted, Handle::list_mut(&mut out))?;
+        out.truncate(n);
+        Ok(out.into_iter().map(Handle).collect())
+    }
+
+    /// As `collect_wanted`, with the handles of the roots written to the front of a lent list (7). The
+    /// answer is how many.
+    pub fn collect_wanted_into(&mut self, types: &(impl AnyTable + ?Sized), pins: &[Slot], wanted: &[Slot], out: &mut [Handle]) -> Result<usize, Refusal> {
+        let types = types.table();
+        let done = change!(&mut self.memory, self.scratch.get_mut(), yexwalu_collect_wanted(
+            types.types.as_ptr(), types.types.len(), types.fields.as_ptr(), types.fields.len(),
+            types.consts.as_ptr(), types.consts.len(), types.bytes.as_ptr(), types.bytes.len(), self.header)
+            (pins.as_ptr().cast(), pins.len(), wanted.as_ptr().cast(), wanted.len(), out.as_mut_ptr().cast(), out.len()));
+        Ok(self.done(done)?.0 as usize)
+    }
+
     /// Does another heap hold the same model, from two root lists on? Yes if the objects that the roots lead to can be paired, each with one, so that the roots in order lead to pairs, the two of a pair have the same kind, type, start,
     /// length and bytes outside handle places, and handles at equal places lead to pairs; a handle that leads nowhere goes with the same 64 bits that lead nowhere there. Only the roots start, not the seals. Slots, generations, write counts
     /// and objects to which no root leads make no difference. Root lists of different length give no. It is refused where the table is not in order (10), and where a root of either heap leads to an object that can't be traced (13),

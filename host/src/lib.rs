@@ -39,7 +39,7 @@
 //! | save the type table beside it, and see that the two fit together | [`TypeTable::write_text`], [`Heap::misfit`] |
 //! | read many objects and their handles | [`Heap::view`] |
 //! | make many calls from a text | [`Heap::run`] |
-//! | drop what no root leads to | [`Heap::collect`]; [`Heap::roots_for`] tells which roots keep just the objects that are wanted |
+//! | drop what no root leads to | [`Heap::collect`]; [`Heap::roots_for`] tells which roots keep just the objects that are wanted, and [`Heap::collect_wanted`] keeps just these |
 //! | compare two heaps under whatever slot numbers, and sort them | [`Heap::same`], [`Heap::order`] |
 //! | tell a person where a text stops being a page | [`page_stops`] |
 //!

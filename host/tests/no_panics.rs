@@ -157,6 +157,7 @@ fn calls(random: &mut Random, heap: &mut Heap, told: &mut Answers) {
         22 => drop(told.take(table.object_handles(ty, &bytes)).zip(told.take(table.value_handles(ty, &bytes)))),
         23 => drop(told.take(table.slot_roots(&map, &bytes))),
         24 => drop(told.take(function.live_at(slot, Wanted::All)).zip(told.take(function.live_refs(Wanted::References)))),
+        25 if random.below(2) == 0 => drop(told.take(heap.collect_wanted(&table, &pins, &slots(random)))),
         25 => drop(told.take(heap.roots_for(&table, &pins, &slots(random)))),
         26 => drop(told.take(heap.misfit(&table))),
         27 => {

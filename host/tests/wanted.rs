@@ -50,6 +50,18 @@ fn by_trying(heap: &Heap, pins: &[Slot], wanted: &[Slot], n: u32) -> Result<Vec<
     best.map(|roots| roots.into_iter().map(|i| handle(i.0)).collect()).ok_or(Refusal::NoRoots)
 }
 
+// `collect_wanted` answers what `roots_for` does. Done, just the wanted slots are live, and the heap is what `collect` leaves; refused, the heap stays.
+fn collects_so(heap: &Heap, pins: &[Slot], wanted: &[Slot], answer: &Result<Vec<Handle>, Refusal>, n: u32) {
+    let (table, mut kept, mut by_two) = (TypeTable::new(), heap.clone(), heap.clone());
+    assert_eq!(kept.collect_wanted(&table, pins, wanted), *answer);
+    if let Ok(roots) = answer {
+        by_two.collect(&table, roots, pins).unwrap();
+        let live: Vec<Slot> = (0..n).map(Slot).filter(|i| kept.kind(*i).is_ok()).collect();
+        assert_eq!(live, wanted);
+    }
+    assert!(kept == by_two);
+}
+
 #[test]
 fn the_answer_is_the_best_of_all_root_lists() {
     let (table, mut random, mut answered) = (TypeTable::new(), Random::new(10), 0);
@@ -65,6 +77,7 @@ fn the_answer_is_the_best_of_all_root_lists() {
             let wanted = slots(set, n);
             let answer = heap.roots_for(&table, &pins, &wanted);
             answered += u32::from(answer.is_ok());
+            collects_so(&heap, &pins, &wanted, &answer, n);
             assert_eq!(answer, by_trying(&heap, &pins, &wanted, n), "{edges:?}, stuck {stuck:?}, pins {pins:?}, wanted {wanted:?}");
         }
         assert!(heap == before);
@@ -101,6 +114,13 @@ fn a_list_one_short_is_7_and_stays() {
     assert_eq!(heap.roots_for_into(&table, &[], &[0, 1, 2].map(Slot), &mut out[..2]), Err(Refusal::ShortList));
     assert_eq!(out, [Handle(9); 3]);
     assert_eq!(heap.roots_for_into(&table, &[], &[0, 2].map(Slot), &mut out), Ok(2));
+    assert_eq!(out, [handle(0), handle(2), Handle(9)]);
+    // so with a collection, which is refused as it begins
+    let mut wanted = heap.clone();
+    assert_eq!(wanted.collect_wanted_into(&table, &[], &[0, 1, 2].map(Slot), &mut out[..2]), Err(Refusal::ShortList));
+    assert!(wanted == heap);
+    out = [Handle(9); 3];
+    assert_eq!(wanted.collect_wanted_into(&table, &[], &[0, 2].map(Slot), &mut out), Ok(2));
     assert_eq!(out, [handle(0), handle(2), Handle(9)]);
     // 21 comes before 7
     assert_eq!(heap.roots_for_into(&table, &[], &[0, 3].map(Slot), &mut out[..0]), Err(Refusal::NoRoots));

@@ -1,6 +1,6 @@
 -- Every public call does its steps: its contract's definition is what they answer and leave. Assumes nothing.
 use mathlib.Core.Path.{◌≡◌, refl, sym, ap, ◌∙◌, subst}
-use mathlib.Core.Bool.{true}
+use mathlib.Core.Bool.{Bool, true, false}
 use mathlib.Core.List.{List, [], ◌∷◌, map}
 use mathlib.Core.Option.{Option, none, some}
 use Prim.Native.Nat.{ℕ}
@@ -18,11 +18,25 @@ use Rattle.heap.proofs.Testing.{formed-tested, formed-test}
 use Rattle.heap_calls.specs.Objects.{object_start, object_size}
 use Rattle.collection.specs.Joined.{joined}
 use Rattle.collect.specs.Collect.{collecting}
-use Rattle.door.specs.HeapCalls.{Test, admitted, whether, heap_tests, zeros, scratch_after, Outcome, outcome_of, calling, asked_of, asking as replying, Entry}
-use Rattle.std.specs.Prelude.{Err, Ok}
+use Rattle.door.specs.HeapCalls.{Test, admitted, whether, heap_tests, zeros, scratch_after, Outcome, outcome_of, calling, Asked as Reply, asked_of, asking as replying, Entry}
+use Rattle.std.specs.Prelude.{Err, Ok, if◌then◌else◌}
+use Rattle.door.proofs.Entering.{asking-not, asking-ready, calling-ready}
+use Rattle.refusal.proofs.Numbers.{never-0}
+use Rattle.word.proofs.ResultLaws.{not-refused}
+use native.Mathlib.Omega.{arith}
+use borrow.Author.Tests.{ne_eqb}
 use Rattle.object_door.specs.ObjectCalls.{allocating, recycling, take_call}
 use Rattle.heap_door.specs.Sealing.{sealing}
 use Rattle.collect_door.specs.Calls.{table_in, tests, Asked, table, frame, pinning, joined_tests, joining}
+use Rattle.traced.specs.Listing.{written_to}
+use Rattle.collection.specs.Shown.{shown}
+use Rattle.collection.specs.Collected.{graph, starts}
+use Rattle.wanted.specs.Outcome.{handle_at}
+use Rattle.wanted.specs.Way.{roots_for}
+use Rattle.wanted.proofs.BetweenPasses.{two-answers}
+use Rattle.wanted_door.specs.RootsFor.{listed, root_handles, Given as Wanting, table_in as wanting_table, tests as wanting_tests, roots_call, roots_out}
+use Rattle.wanted_door.specs.CollectWanted.{with_roots, collected_with, wanted_call}
+use Rattle.wanted_door.proofs.KeepingWanted.{front-written, passes}
 use Rattle.script.specs.Script.{lines, silent, quiet, doing as line_doing, line_does, unless, and_then, run_lines, run_script}
 use Rattle.script.specs.Calls.{Call as LineCall, alloc as alloc_line, take as take_line, seal as seal_line, recycle as recycle_line}
 use Rattle.script.specs.Reading.{call_of}
@@ -31,12 +45,13 @@ use Rattle.std.specs.declared.cmp.Ordering.{Ordering}
 use Rattle.saves.specs.Saves.{ordering, same_number, order_number, Save, Words, table_in as table_in_words, save_tests, scratch_of, comparing}
 use Rattle.histories.specs.Steps.{Told, Step, alloc, reissue, edit, write, take, free, recycle, seal, collect, ask, nothing as silence, handle, slot, object, told, saying, answering, silently, doing, Value}
 use Rattle.histories.specs.History.{after}
-use Rattle.histories.specs.Calls.{Scratch, Call, alloc_from, reissue as reissue_call, edit as edit_call, write as write_call, take as take_out, free as free_call, recycle as recycle_call, seal as seal_call, collect as collect_call, collect_joined, run, question, leaving, contract, turned, joined_step, line_step, unless_refused, line_steps, steps}
+use Rattle.histories.specs.Calls.{Scratch, Call, alloc_from, reissue as reissue_call, edit as edit_call, write as write_call, take as take_out, free as free_call, recycle as recycle_call, seal as seal_call, collect as collect_call, collect_joined, collect_wanted, counted, roots_in, from_roots, wanted_steps, run, question, leaving, contract, turned, joined_step, line_step, unless_refused, line_steps, steps}
 use Rattle.histories.specs.Promises.{numbers, ended_by, ending, first_told, said_of, Does, CallsDoSteps}
 use Rattle.histories.specs.Questions.{told_by, QuestionsAreCalls, AsksBoth, ComparisonsAreCalls}
 use Rattle.histories.proofs.Histories.{after-grew}
 use Rattle.code.specs.Lent.{function}
-use lib.ListN.{length}
+use lib.ListN.{length, take as taken}
+use lib.Dec.{leb, eqb}
 
 -- ---- what is done where the tests are passed, and where not
 
@@ -200,6 +215,77 @@ asks-both number w s t =
 pub comparisons-are-calls : ComparisonsAreCalls
 comparisons-are-calls w s t = (asks-both same_number w s t, asks-both order_number w s t)
 
+-- ---- a collection that keeps the wanted slots
+
+number_in : Result (List ℕ) → ℕ
+number_in (ok xs) = 0
+number_in (refused n) = n
+
+-- roots are refused with 21 or 7
+roots-refused : (g : Wanting) (out : List ℕ) (h : State) (n : ℕ) → roots_in g out h ≡ refused n → n ≡ 0 → ⊥
+unfolding root_handles listed number_in
+roots-refused g out h n e z =
+    two-answers (graph h (shown (wanting_table g) h)) (starts h [] g.pins) (length h.slots) g.wanted
+    (λ is q. fitting is (leb (length is) (length out)) (sym (ap (λ (r : Result (List ℕ)). listed h r (length out)) q) ∙ e))
+    (λ q. let x : ◌≡◌ {A = ℕ} 21 n = ap number_in (sym (ap (λ (r : Result (List ℕ)). listed h r (length out)) q) ∙ e) in omega (arith, x, z))
+  where
+    fitting : (is : List ℕ) (b : Bool) → (if b then ok (map (handle_at h) is) else refused 7) ≡ refused n → ⊥
+    fitting is true q = not-refused (sym q)
+    fitting is false q = let x : ◌≡◌ {A = ℕ} 7 n = ap number_in q in omega (arith, x, z)
+
+numbers-counted : (r : Result (List ℕ)) → answered length nothing r ≡ numbers (saying told (counted r))
+numbers-counted (ok xs) = refl
+numbers-counted (refused n) = refl
+
+module _ (marks work : List ℕ) (l : Lent) (wf : well_formed l ≡ true) (g : Wanting) (out : List ℕ) where
+  -- refused: the heap stays
+  stays : ((roots_call g marks work l out).answer.number ≡ 0 → ⊥) → (wanted_call g marks work l out).heap ≡ stored (slot_count l) (pool_size l) (view l)
+  stays n = ap (λ (b : Bool). if b then (collected_with g marks work l out).heap else l) (ne_eqb (roots_call g marks work l out).answer.number 0 n) ∙ (formed-tested l wf).lies
+
+  module _ (i : admitted (wanting_tests g marks work l) ≡ Ok tt) where
+    roots-told : (roots_call g marks work l out).answer ≡ answered length nothing (roots_in g out (view l))
+    roots-told = ap (λ (r : Reply). r.answer) (asking-ready length nothing (marks ∷ work ∷ []) (wanting_tests g marks work l) l (root_handles (wanting_table g) g.pins g.wanted (length out)) i)
+
+    roots-written : roots_out g marks work l out ≡ written_to out (roots_in g out (view l))
+    roots-written = ap (λ (x : Entry). whether x (λ why. out) (written_to out (roots_in g out (view l)))) i
+
+    -- found: the heap is what the collection from these roots leaves
+    found : (xs : List ℕ) → roots_in g out (view l) ≡ ok xs
+        → (wanted_call g marks work l out).heap ≡ stored (slot_count l) (pool_size l) (collecting (wanting_table g) xs g.pins (view l)).heap
+    found xs r =
+        let a : (roots_call g marks work l out).answer ≡ answered length nothing (ok xs) = roots-told ∙ ap (answered length nothing) r in
+        let zero : eqb (roots_call g marks work l out).answer.number 0 ≡ true = ap (λ (x : Answer). eqb x.number 0) a in
+        let roots : taken (roots_call g marks work l out).answer.first (roots_out g marks work l out) ≡ xs =
+        (λ j. taken (a j).first ((roots-written ∙ ap (written_to out) r) j)) ∙ front-written out xs (length xs) refl in
+        let c = calling-ready nothing nothing (marks ∷ work ∷ []) (tests (with_roots g (roots_call g marks work l out).answer (roots_out g marks work l out)) marks work l) l
+        (collecting (wanting_table g) (taken (roots_call g marks work l out).answer.first (roots_out g marks work l out)) g.pins)
+        (passes g (roots_call g marks work l out).answer (roots_out g marks work l out) marks work marks work l (omega arith) (omega arith) i) in
+        ap (λ (b : Bool). if b then (collected_with g marks work l out).heap else l) zero ∙ ap (λ (o : Outcome). o.heap) c
+        ∙ ap (λ (R : List ℕ). stored (slot_count l) (pool_size l) (collecting (wanting_table g) R g.pins (view l)).heap) roots
+
+    by-roots : (r : Result (List ℕ)) → roots_in g out (view l) ≡ r
+        → (wanted_call g marks work l out).heap ≡ stored (slot_count l) (pool_size l) (after (slot_count l) (pool_size l) (from_roots g r) (view l))
+    unfolding doing
+    by-roots (ok xs) r = found xs r
+    by-roots (refused n) r = stays (λ z. roots-refused g out (view l) n r (sym (ap (λ (x : Answer). x.number) (roots-told ∙ ap (answered length nothing) r)) ∙ z))
+
+  -- what its steps come to, by what the tests found
+  abbrev Does_so : Entry → Type 0
+  Does_so e =
+      let cs : List Step = whether e (λ why. turned (number_of why) ∷ []) (wanted_steps g out (view l)) in
+      DoesBy l (wanted_call g marks work l out) cs (first_told (slot_count l) (pool_size l) cs (view l))
+
+  wanted-by : (e : Entry) → admitted (wanting_tests g marks work l) ≡ e → Does_so e
+  unfolding doing
+  wanted-by (Ok _) i = record { leaves = by-roots i (roots_in g out (view l)) refl; tells = roots-told i ∙ numbers-counted (roots_in g out (view l)) }
+  wanted-by (Err why) i =
+      let a : (roots_call g marks work l out).answer ≡ refused_by (number_of why) =
+      ap (λ (r : Reply). r.answer) (asking-not length nothing (marks ∷ work ∷ []) (wanting_tests g marks work l) l (root_handles (wanting_table g) g.pins g.wanted (length out)) i) in
+      record { leaves = stays (λ z. never-0 why (sym (ap (λ (x : Answer). x.number) a) ∙ z)); tells = a }
+
+  does-wanted : Does_so (admitted (wanting_tests g marks work l))
+  does-wanted = wanted-by (admitted (wanting_tests g marks work l)) refl
+
 -- ---- every call
 
 module _ (s : Scratch) (l : Lent) (wf : well_formed l ≡ true) where
@@ -225,6 +311,7 @@ module _ (s : Scratch) (l : Lent) (wf : well_formed l ≡ true) where
   does-by (collect_joined a) =
       does-calling nothing nothing (s.marks ∷ s.work ∷ s.rows ∷ []) (joined_tests a s.marks s.work s.rows l) l wf (joining a) (joined_step a (frame a)) (λ _. silence)
       (joined_step_lem (slot_count l) (pool_size l) a (view l)) (λ a. refl)
+  does-by (collect_wanted g out) = does-wanted s.marks s.work l wf g out
   does-by (run text) = does-run (s.room ∷ s.marks ∷ s.work ∷ []) (run_tests s.room s.marks s.work l text) l wf text
   does-by (question scratch tests answer) = does-asking scratch tests l wf answer
 

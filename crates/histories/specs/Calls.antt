@@ -1,6 +1,6 @@
--- Every public call on a heap in lent memory, with what its host gives it; what its contract says that it
--- answers and leaves; and the steps that it comes to. `new` and `read_page` make or load a heap and stand
--- before a history, not in it.
+-- Every public call on a heap in lent memory, with what its host gives it; what its contract says
+-- that it answers and leaves; and the steps that it comes to. `new` and `read_page` make or load a
+-- heap and stand before a history, not in it.
 use Rattle.std.specs.Prelude.{List, [], ◌∷◌, ◌++◌, ℕ, length}
 use Rattle.std.proofs.Math.Option.{Option, none, some}
 use Rattle.word.specs.Result.{Result, ok, refused}
@@ -13,6 +13,8 @@ use Rattle.door.specs.HeapCalls.{Test, admitted, whether, heap_tests, Outcome, o
 use Rattle.object_door.specs.ObjectCalls.{allocating, recycling, take_call}
 use Rattle.heap_door.specs.Sealing.{sealing}
 use Rattle.collect_door.specs.Calls.{Given, table_in, tests, collect_call, Asked, table, frame, pinning, joined_tests, joined_call}
+use Rattle.wanted_door.specs.RootsFor.{Given as Wanting, table_in as wanting_table, tests as wanting_tests, root_handles}
+use Rattle.wanted_door.specs.CollectWanted.{wanted_call}
 use Rattle.script.specs.Script.{lines}
 use Rattle.script.specs.Calls.{Call as LineCall, alloc as alloc_line, take as take_line, seal as seal_line, recycle as recycle_line}
 use Rattle.script.specs.Reading.{call_of}
@@ -32,9 +34,10 @@ pub record Scratch : Type 0 where
 abbrev pub lending : (marks work : List ℕ) → Scratch
 lending marks work = record { marks = marks; work = work; rows = []; room = [] }
 
--- Each call with its arguments. `alloc` is `alloc_from` with start 0. `question` is each call that is lent a
--- heap to read: the scratch that it is lent, what it tests first, and what it asks of the heap. `same` and
--- `order` are lent a second heap: scratch and tests are then of both (specs/Questions.antt).
+-- Each call with its arguments. `alloc` is `alloc_from` with start 0. `question` is each call that
+-- is lent a heap to read: the scratch that it is lent, what it tests first, and what it asks of the
+-- heap. `same` and `order` are lent a second heap: scratch and tests are then of both
+-- (specs/Questions.antt).
 pub data Call : Type 0 where
   alloc_from : (kind type start : ℕ) (bytes : List ℕ) → Call
   reissue : (i grown : ℕ) → Call
@@ -46,6 +49,7 @@ pub data Call : Type 0 where
   seal : Call
   collect : Given → Call
   collect_joined : Asked → Call
+  collect_wanted : Wanting → (out : List ℕ) → Call
   run : (text : List ℕ) → Call
   question : (scratch : List (List ℕ)) (tests : List Test) (answer : State → Result Told) → Call
 
@@ -53,7 +57,8 @@ pub data Call : Type 0 where
 abbrev pub leaving : Lent → Reply → Outcome
 leaving l r = outcome_of r.answer l r.scratch
 
--- what a call on the lent memory l answers and leaves: each line is what the call's contract is an equation with
+-- what a call on the lent memory l answers and leaves: each line is what the call's contract is an
+-- equation with
 abbrev pub contract : Scratch → Call → Lent → Outcome
 contract s (alloc_from kind type start bytes) l = heap_call here nothing s.marks s.work l (allocating (slot_count l) (pool_size l) kind type start bytes)
 contract s (reissue i grown) l = heap_call here nothing s.marks s.work l (λ h. reissued h i grown)
@@ -65,6 +70,7 @@ contract s (recycle pins) l = heap_call nothing nothing s.marks s.work l (recycl
 contract s seal l = heap_call nothing nothing s.marks s.work l sealing
 contract s (collect g) l = collect_call g s.marks s.work l
 contract s (collect_joined a) l = joined_call a s.marks s.work s.rows l
+contract s (collect_wanted g out) l = wanted_call g s.marks s.work l out
 contract s (run text) l = run_call s.room s.marks s.work l text
 contract s (question scratch tests answer) l = leaving l (replying (λ (t : Told). t.first) (λ (t : Told). t.second) scratch tests l answer)
 
@@ -82,6 +88,7 @@ tests_of s (recycle pins) l = heap_tests s.marks s.work l
 tests_of s seal l = heap_tests s.marks s.work l
 tests_of s (collect g) l = tests g s.marks s.work l
 tests_of s (collect_joined a) l = joined_tests a s.marks s.work s.rows l
+tests_of s (collect_wanted g out) l = wanting_tests g s.marks s.work l
 tests_of s (run text) l = run_tests s.room s.marks s.work l text
 tests_of s (question scratch tests answer) l = tests
 
@@ -89,7 +96,8 @@ tests_of s (question scratch tests answer) l = tests
 abbrev pub turned : ℕ → Step
 turned n = ask (λ h. refused n)
 
--- the joined collection is a collection from the frame's handles and the values of the root registers, with the pins in effect; 13 where the frame map can't be traced
+-- the joined collection is a collection from the frame's handles and the values of the root
+-- registers, with the pins in effect; 13 where the frame map can't be traced
 abbrev pub joined_roots : Asked → (handles : List ℕ) → List ℕ
 joined_roots a handles = handles ++ values_of a.values (root_registers (function a.code) a.pc)
 
@@ -99,6 +107,22 @@ joined_pins a = pins_at (function a.code) a.pc a.values (pinning a)
 abbrev pub joined_step : Asked → (handles : Option (List ℕ)) → Step
 joined_step a none = turned 13
 joined_step a (some handles) = collect_step (table a) (joined_roots a handles) (joined_pins a)
+
+-- the collection that keeps the wanted slots asks for the roots, tells how many they are, and is a
+-- collection from them; where none are found nothing is left to do
+abbrev pub roots_in : Wanting → (out : List ℕ) → State → Result (List ℕ)
+roots_in g out h = root_handles (wanting_table g) g.pins g.wanted (length out) h
+
+abbrev pub counted : Result (List ℕ) → Result Told
+counted (ok roots) = ok (record { first = length roots; second = 0 })
+counted (refused n) = refused n
+
+abbrev pub from_roots : Wanting → Result (List ℕ) → List Step
+from_roots g (ok roots) = collect_step (wanting_table g) roots g.pins ∷ []
+from_roots g (refused n) = []
+
+abbrev pub wanted_steps : Wanting → (out : List ℕ) → State → List Step
+wanted_steps g out h = ask (λ k. counted (roots_in g out k)) ∷ from_roots g (roots_in g out h)
 
 -- a line of a script: its `take` hands out no object; a line that is no call's is 17
 abbrev pub line_step : Option LineCall → Step
@@ -132,6 +156,7 @@ steps_of (recycle pins) S P h = recycle_step pins ∷ []
 steps_of seal S P h = seal_step ∷ []
 steps_of (collect g) S P h = collect_step (table_in g) g.roots g.pins ∷ []
 steps_of (collect_joined a) S P h = joined_step a (frame a) ∷ []
+steps_of (collect_wanted g out) S P h = wanted_steps g out h
 steps_of (run text) S P h = line_steps S P (lines text) h
 steps_of (question scratch tests answer) S P h = ask answer ∷ []
 

@@ -1,4 +1,5 @@
--- Histories: steps one after the other, each on the heap as the one before left it, and what is counted from them.
+-- Histories: steps one after the other, each on the heap as the one before left it, and what is
+-- counted from them.
 use Rattle.std.specs.Prelude.{◌≡◌, true, ◌↔◌, List, [], ◌∷◌, ◌++◌, ℕ, ◌+◌, length, eqb}
 use Rattle.word.specs.Result.{Result, ok, refused}
 use Rattle.ty.specs.Types.{Table}

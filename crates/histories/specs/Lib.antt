@@ -1,8 +1,8 @@
--- The steps that a heap takes and what is counted from them; the public calls and the steps that they come to;
--- questions and the calls without a check as calls; what holds of every history.
+-- The steps that a heap takes and what is counted from them; the public calls and the steps that
+-- they come to; questions and the calls without a check as calls; what holds of every history.
 pub mod Steps
 pub mod History
 pub mod Calls
 pub mod Questions
-pub mod Unchecked
+pub mod WithoutCheck
 pub mod Promises

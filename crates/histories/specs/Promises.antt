@@ -1,5 +1,5 @@
--- What holds of every history of public calls from a new heap, and of the heap that it leaves; and that the
--- calls do the steps which are counted.
+-- What holds of every history of public calls from a new heap, and of the heap that it leaves; and
+-- that the calls do the steps which are counted.
 use Rattle.std.specs.Prelude.{◌≡◌, true, List, [], ◌∷◌, ◌++◌, ℕ, ◌+◌, length}
 use Rattle.word.specs.Result.{Result, ok, refused}
 use Rattle.refusal.specs.Told.{refused_by}
@@ -16,7 +16,7 @@ use Rattle.collect_door.specs.Demand.{StartsAt}
 use Rattle.object_door.specs.Making.{new_call}
 use Rattle.histories.specs.Steps.{Step, nothing, handle, slot, object, told, doing, Value}
 use Rattle.histories.specs.History.{Books, after, issued, Distinct, Resolves, total, Lost}
-use Rattle.histories.specs.Calls.{Scratch, Call, alloc_from, reissue, edit, write, take, free, recycle, seal, collect, collect_joined, run, question, contract, tests_of, joined_roots, joined_pins, steps, Made, left, all_steps}
+use Rattle.histories.specs.Calls.{Scratch, Call, alloc_from, reissue, edit, write, take, free, recycle, seal, collect, collect_joined, collect_wanted, run, question, contract, tests_of, joined_roots, joined_pins, steps, Made, left, all_steps}
 
 -- ---- a call does its steps
 
@@ -38,7 +38,8 @@ abbrev pub ending : (S P : ℕ) → List Step → State → ℕ
 ending S P [] h = 0
 ending S P (c ∷ cs) h = ended_by (doing S P c h).answer (ending S P cs (doing S P c h).heap)
 
--- what a host is told of a call: of `run` how its lines ended, of each other call what its one step answers
+-- what a host is told of a call: of `run` how its lines ended, of each other call what its first step
+-- answers
 abbrev pub first_told : (S P : ℕ) → List Step → State → Answer
 first_told S P [] h = refused_by 0
 first_told S P (c ∷ cs) h = numbers (doing S P c h).answer
@@ -54,10 +55,12 @@ said_of (recycle pins) S P cs h = first_told S P cs h
 said_of seal S P cs h = first_told S P cs h
 said_of (collect g) S P cs h = first_told S P cs h
 said_of (collect_joined a) S P cs h = first_told S P cs h
+said_of (collect_wanted g out) S P cs h = first_told S P cs h
 said_of (run text) S P cs h = refused_by (ending S P cs h)
 said_of (question scratch tests answer) S P cs h = first_told S P cs h
 
--- lent memory that is well formed stays so, of the same sizes, and holds the heap that the call's steps leave; its answer is theirs
+-- lent memory that is well formed stays so, of the same sizes, and holds the heap that the call's
+-- steps leave; its answer is theirs
 pub record Does (s : Scratch) (c : Call) (l : Lent) : Type 0 where
   pub leaves : (contract s c l).heap ≡ stored (slot_count l) (pool_size l) (after (slot_count l) (pool_size l) (steps s c l) (view l))
   pub formed : well_formed (contract s c l).heap ≡ true
@@ -66,7 +69,8 @@ pub record Does (s : Scratch) (c : Call) (l : Lent) : Type 0 where
 abbrev pub CallsDoSteps : Type 0
 CallsDoSteps = (s : Scratch) (c : Call) (l : Lent) → well_formed l ≡ true → Does s c l
 
--- the chains by which the unreached of a joined collection are counted start at what walks over the code find
+-- the chains by which the unreached of a joined collection are counted start at what walks over the
+-- code find
 abbrev pub JoinedChains : Type 0
 JoinedChains =
     (s : Scratch) (a : Asked) (l : Lent) (handles : List ℕ) → admitted (tests_of s (collect_joined a) l) ≡ ready → StartsAt a l handles (starts (view l) (joined_roots a handles) (joined_pins a))
@@ -93,8 +97,8 @@ LostBy l ms n = Lost (slot_count l) (pool_size l) (all_steps ms l) (view l) n
 pub record Promises (l : Lent) (held there : ℕ) (ms : List Made) : Type 0 where
   -- no two handles issued by `alloc` or `reissue` are equal
   pub once : Distinct (issued_by l ms)
-  -- a handle that has stopped resolving never resolves again: `next` and `later` are any steps of the history
-  -- that follow each other, the lines of a run too
+  -- a handle that has stopped resolving never resolves again: `next` and `later` are any steps of
+  -- the history that follow each other, the lines of a run too
   pub never : (before next later rest : List Step) (x : ℕ) → all_steps ms l ≡ before ++ (next ++ (later ++ rest))
       → Resolves (state_after l before) x
       → (Resolves (state_after l (before ++ next)) x → ⊥)
@@ -103,7 +107,8 @@ pub record Promises (l : Lent) (held there : ℕ) (ms : List Made) : Type 0 wher
   pub lies : heap_after l ms ≡ state_after l (all_steps ms l)
   -- it is well formed, which is what a call without a check requires: such a call may come next
   pub formed : well_formed (left ms l) ≡ true
-  -- the number of live objects equals allocations that succeeded, less takes and frees that did, less the unreached that collections dropped
+  -- the number of live objects equals allocations that succeeded, less takes and frees that did,
+  -- less the unreached that collections dropped
   pub objects : (lost : ℕ) → LostBy l ms lost → live_count (heap_after l ms).slots + (counting (λ b. b.removed) l ms + lost) ≡ held + counting (λ b. b.placed) l ms
   pub counted : (lost : ℕ) × LostBy l ms lost
   -- the slot count equals the allocations that found the free list empty and succeeded

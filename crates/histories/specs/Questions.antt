@@ -1,5 +1,5 @@
--- Questions: calls that are lent a heap to read. Each is a call of one shape, `question`; a call that is lent
--- two heaps is such a question to each of them.
+-- Questions: calls that are lent a heap to read. Each is a call of one shape, `question`; a call
+-- that is lent two heaps is such a question to each of them.
 use Rattle.std.specs.Prelude.{◌≡◌, List, ℕ}
 use Rattle.std.specs.declared.cmp.Ordering.{Ordering}
 use Rattle.word.specs.Result.{Result, ok, refused}
@@ -7,7 +7,8 @@ use Rattle.refusal.specs.Told.{nothing}
 use Rattle.heap.specs.State.{State}
 use Rattle.heap.specs.Lent.{Lent, view}
 use Rattle.door.specs.HeapCalls.{Test, Asked as Reply, asking}
-use Rattle.saves.specs.Saves.{ordering, same_number, order_number, Save, Words, table_in, save_tests, scratch_of, same_call, order_call}
+use Rattle.saves.specs.Saves.{ordering, same_number, order_number, Save, Words, table_in}
+use Rattle.saves.specs.Saves.{save_tests, scratch_of, same_call, order_call}
 use Rattle.histories.specs.Steps.{Told}
 use Rattle.histories.specs.Calls.{Scratch, Call, question, leaving, contract}
 
@@ -19,8 +20,10 @@ told_by first second (refused n) = refused n
 -- what each contract of a question is an equation with, `asking`, is `contract` of a `question`
 abbrev pub QuestionsAreCalls : (A : Type 0) → Type 0
 QuestionsAreCalls A =
-    (first second : A → ℕ) (s : Scratch) (scratch : List (List ℕ)) (tests : List Test) (l : Lent) (ask : State → Result A)
-    → leaving l (asking first second scratch tests l ask) ≡ contract s (question scratch tests (λ h. told_by first second (ask h))) l
+    (first second : A → ℕ) (s : Scratch) (scratch : List (List ℕ)) (tests : List Test) (l : Lent)
+    (ask : State → Result A)
+    → leaving l (asking first second scratch tests l ask)
+    ≡ contract s (question scratch tests (λ h. told_by first second (ask h))) l
 
 -- ---- two saves compared
 

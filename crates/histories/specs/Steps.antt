@@ -1,5 +1,6 @@
--- What a heap takes: each call that may change it, and every question, one step each. What a step answers and leaves is said by the definitions that the
--- public contracts are equations with. S is the number of lent slots, P of pool bytes.
+-- What a heap takes: each call that may change it, and every question, one step each. What a step
+-- answers and leaves is said by the definitions that the public contracts are equations with. S is
+-- the number of lent slots, P of pool bytes.
 use Rattle.std.specs.Prelude.{List, ℕ}
 use Rattle.word.specs.Result.{Result, ok, refused}
 use Rattle.ty.specs.Types.{Table}
@@ -15,8 +16,10 @@ pub record Told : Type 0 where
   pub first : ℕ
   pub second : ℕ
 
--- `alloc` is `alloc_from` with start 0. `collect` is both collections: the joined one has the frame's handles and the values of root registers for roots. A question
--- is any that looks at the heap; a call that is turned away before it looks at the heap's content is a question that is refused.
+-- `alloc` is `alloc_from` with start 0. `collect` is both collections: the joined one has the
+-- frame's handles and the values of root registers for roots. A question is any that looks at the
+-- heap; a call that is turned away before it looks at the heap's content is a question that is
+-- refused.
 pub data Step : Type 0 where
   alloc : (kind type start : ℕ) (bytes : List ℕ) → Step
   reissue : (i grown : ℕ) → Step

@@ -1,14 +1,14 @@
-// Histories: public calls on one heap, one after another, and what holds of every history. Each function here has
-// an empty body: its `ensures` is the theorem. Crate `history_calls` makes the public calls, crate
-// `held_history` those without a check.
+// Histories: public calls on one heap, one after another, and what holds of every history. Each
+// function here has an empty body: its `ensures` is the theorem. Crate `history_calls` makes the
+// public calls, crate `held_history` those without a check.
 
 #![tactic(auto)]
 
 ghost use Rattle.histories.specs.Promises.{NoHandleTwice, NoHandleTwiceFrom, CallsDoSteps, JoinedChains};
 ghost use Rattle.histories.specs.Questions.{QuestionsAreCalls, ComparisonsAreCalls};
 
-// No handle is given twice, from a new heap, and one that has stopped resolving never resolves again; how many
-// objects live and how many slots there are.
+// No handle is given twice, from a new heap, and one that has stopped resolving never resolves
+// again; how many objects live and how many slots there are.
 pub fn no_handle_twice()
     ensures { NoHandleTwice }
 {}
@@ -18,7 +18,8 @@ pub fn no_handle_twice_from()
     ensures { NoHandleTwiceFrom }
 {}
 
-// A call on well formed memory leaves what its steps leave, well formed, and tells what they answer.
+// A call on well formed memory leaves what its steps leave, well formed, and tells what they
+// answer.
 pub fn calls_do_steps()
     ensures { CallsDoSteps }
 {}

@@ -1,7 +1,8 @@
-// The calls that a history is of (crate `histories`), made: each function does no more than make a public call.
-// Its contract is the public call's own, said by `contract` of crates/histories/specs/Calls.antt: so it is the
-// public calls that the theorems on histories speak of. Questions are apart, as `QuestionsAreCalls` joins them;
-// but `same` and `order` are here, which are lent two heaps.
+// The calls that a history is of (crate `histories`), made: each function does no more than make a
+// public call. Its contract is the public call's own, said by `contract` of
+// crates/histories/specs/Calls.antt: so it is the public calls that the theorems on histories speak
+// of. Questions are apart, as `QuestionsAreCalls` joins them; but `same` and `order` are here,
+// which are lent two heaps.
 #![tactic(auto)]
 
 ghost use Rattle.std.specs.Prelude.{◌≡◌, [], ◌∷◌};
@@ -10,6 +11,7 @@ ghost use Rattle.door.specs.HeapCalls.{outcome, outcome_of, asked_of};
 ghost use Rattle.histories.specs.Calls.{lending, contract};
 ghost use Rattle.histories.specs.Calls.{alloc_from, reissue as reissued, edit as edited, write as written, take as taken, free as freed, recycle as recycled, seal as sealed};
 ghost use Rattle.histories.specs.Calls.{collect as collected, collect_joined as joined, run as ran};
+ghost use Rattle.histories.specs.Calls.{collect_wanted as wanted_kept};
 ghost use Rattle.histories.specs.Questions.{AsksBoth};
 ghost use Rattle.saves.specs.Saves.{words_of, save_of, same_number, order_number};
 
@@ -187,6 +189,40 @@ pub fn collect(
 {
     collect_door::yexwalu_collect(
         types, fields, consts, bytes, heap, narrow, wide, pool, roots, pins, marks, work,
+    )
+}
+
+pub fn collect_wanted(
+    types: &[u64],
+    fields: &[u32],
+    consts: &[u64],
+    bytes: &[u8],
+    heap: Heap,
+    narrow: &mut [u32],
+    wide: &mut [u64],
+    pool: &mut [u8],
+    pins: &[u32],
+    wanted: &[u32],
+    out: &mut [u64],
+    marks: &mut [u8],
+    work: &mut [u64],
+) -> Done
+    ensures { outcome result.answer (lent result.heap narrow.new wide.new pool.new) marks.new work.new
+        ≡ contract (lending marks.old work.old)
+        (wanted_kept
+        (record {
+          types = types.now;
+          fields = fields.now;
+          consts = consts.now;
+          bytes = bytes.now;
+          pins = pins.now;
+          wanted = wanted.now;
+        })
+        out.old)
+        (lent heap narrow.old wide.old pool.old) }
+{
+    wanted_door::collecting::yexwalu_collect_wanted(
+        types, fields, consts, bytes, heap, narrow, wide, pool, pins, wanted, out, marks, work,
     )
 }
 

@@ -1,4 +1,5 @@
-// The commands of the program `replay` that collect: from roots, or at a safepoint of the function; and the one that rehearses thresholds.
+// The commands of the program `replay` that collect: from roots, at a safepoint of the function, or
+// so that wanted slots are kept; and the one that rehearses thresholds.
 #![tactic(auto)]
 
 ghost use Rattle.std.specs.Prelude.{◌≡◌, IfErr};
@@ -6,13 +7,14 @@ ghost use Rattle.protocol.specs.declared.Fault.TheVariants.{Bad};
 
 pub mod rehearsals;
 
-use answers::put_answer;
+use answers::{List, front, put_answer, put_told};
 use door::Done;
 use fields::Fields;
 use protocol::{Fault, HALF, NoCommand, WORD};
 use replay_code::Function;
 use replay_kept::table::Table;
 use replay_kept::{Kept, Scratch};
+use std::io;
 use std::str::FromStr;
 use yexwalu::heaps;
 
@@ -20,6 +22,7 @@ use yexwalu::heaps;
 pub enum Collection {
     Plain,
     Joined,
+    Wanted,
 }
 
 impl FromStr for Collection {
@@ -29,6 +32,7 @@ impl FromStr for Collection {
         match name {
             "collect" => Ok(Collection::Plain),
             "joined" => Ok(Collection::Joined),
+            "collectwanted" => Ok(Collection::Wanted),
             _ => Err(NoCommand),
         }
     }
@@ -126,6 +130,43 @@ fn collect_joined(kept: &mut Kept, t: &Table, code: &Function, at: &Safepoint) -
     )
 }
 
+// The pins and the wanted slots of a line.
+fn pins_and_wanted(line: &mut Fields) -> Result<(Vec<u32>, Vec<u32>), Fault> {
+    let pins = line.halves(MOST_HALVES)?;
+    let wanted = line.halves(MOST_HALVES.saturating_sub(pins.len()))?;
+    Ok((pins, wanted))
+}
+
+// The collection that keeps the wanted slots, with the roots that were found. There are 8,192 slots
+// at most.
+fn collect_wanted(
+    rt: &impl Print,
+    kept: &mut Kept,
+    t: &Table,
+    pins: &[u32],
+    wanted: &[u32],
+) -> io::Result<()> {
+    let mut out = [7u64; 8192];
+    let mut s = Scratch::new();
+    let done = heaps::collect_wanted(
+        &t.types,
+        &t.fields,
+        &t.consts,
+        &t.bytes,
+        kept.heap,
+        &mut kept.narrow,
+        &mut kept.wide,
+        &mut kept.pool,
+        pins,
+        wanted,
+        &mut out,
+        &mut s.marks,
+        &mut s.work,
+    );
+    kept.heap = done.heap;
+    put_told(rt, done.answer, |count, _| print!(rt; " {}", List(front(&out, count))))
+}
+
 /// Runs a line. One that can't be read leaves the heap as it is.
 pub fn answer(
     rt: &impl Print,
@@ -146,6 +187,11 @@ pub fn answer(
         Collection::Joined => {
             let at = Safepoint::read(line)?;
             collect_joined(kept, t, code, &at)
+        }
+        Collection::Wanted => {
+            let (pins, wanted) = pins_and_wanted(line)?;
+            collect_wanted(rt, kept, t, &pins, &wanted)?;
+            return Ok(());
         }
     };
     kept.heap = done.heap;

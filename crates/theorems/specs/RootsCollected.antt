@@ -1,24 +1,20 @@
 -- Roots for a wanted set (request [10]), over the two public calls: `collect` on the same heap, with the same type table and pins, with the roots that `roots_for` wrote and with scratch
 -- no shorter, succeeds and leaves live exactly the wanted slots.
-use Rattle.std.specs.Prelude.{◌≡◌, true, List, ◌↔◌, ℕ, ◌≤◌, length, take}
+use Rattle.std.specs.Prelude.{◌≡◌, true, List, ◌↔◌, ℕ, ◌≤◌, length}
 use Rattle.refusal.specs.declared.Answer.{Answer}
 use Rattle.heap.specs.State.{slot_at, live}
 use Rattle.heap.specs.Lent.{Lent, view}
 use Rattle.reach.specs.Reach.{◌∈◌}
 use Rattle.door.specs.HeapCalls.{Outcome, asked_of}
-use Rattle.collect_door.specs.Calls.{Given, collect_call}
+use Rattle.collect_door.specs.Calls.{collect_call}
 use Rattle.collect_door.specs.Demand.{done}
 use Rattle.wanted_door.specs.RootsFor.{Given as Wanted, roots_call, roots_out}
+use Rattle.wanted_door.specs.CollectWanted.{with_roots}
 
 -- a call of `roots_for` on l answered a, and left scratch and the list: its contract
 pub record Found (g : Wanted) (marks work : List ℕ) (l : Lent) (out : List ℕ) (a : Answer) (scratch : List (List ℕ)) (out' : List ℕ) : Type 0 where
   pub answer : asked_of a scratch ≡ roots_call g marks work l out
   pub written : out' ≡ roots_out g marks work l out
-
--- what `collect` is given then: as many roots of the list as the answer says
-abbrev pub with_roots : Wanted → Answer → (out' : List ℕ) → Given
-with_roots g a out' =
-    record { types = g.types; fields = g.fields; consts = g.consts; bytes = g.bytes; roots = take a.first out'; pins = g.pins }
 
 abbrev pub RootsCollected : Type 0
 RootsCollected =

@@ -6,3 +6,5 @@ pub mod Roots
 pub mod Naming
 pub mod Theorem
 pub mod Entries
+pub mod Turns
+pub mod KeepingWanted

@@ -22,6 +22,7 @@ use refusal::{Answer, Refusal, Reply};
 use ty::Table;
 use ty_check::check_table;
 
+pub mod collecting; // the roots, and a collection with them
 mod list; // the roots that were picked, counted and written
 mod pick; // the two goings through the wanted slots
 

@@ -3,3 +3,4 @@ mod TableCalls
 mod TypeCalls
 mod HandleCalls
 mod LiveCalls
+mod RightLive

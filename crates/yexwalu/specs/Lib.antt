@@ -3,3 +3,4 @@ pub mod Table
 pub mod Types
 pub mod Handles
 pub mod Live
+pub mod RightLive

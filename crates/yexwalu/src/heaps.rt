@@ -25,6 +25,7 @@ use refusal::Answer;
 pub use rehearse_door::yexwalu_rehearse as rehearse;
 pub use run_door::yexwalu_run as run;
 pub use same_door::{yexwalu_order as order, yexwalu_same as same};
+pub use wanted_door::collecting::yexwalu_collect_wanted as collect_wanted;
 pub use wanted_door::yexwalu_roots_for as roots_for;
 
 // `yexwalu_write` under its short name. An import can't rename it so, since a macro is called `write`.

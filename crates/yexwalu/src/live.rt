@@ -5,6 +5,7 @@ ghost use Rattle.roots.specs.Calls.{LiveAtCall};
 ghost use Rattle.code.specs.Inner.Columns.{wanted};
 ghost use Rattle.root_map.specs.Calls.{LiveRefsCall};
 ghost use Rattle.yexwalu.specs.Live.{asked};
+ghost use Rattle.yexwalu.specs.RightLive.{RightLiveAt, RightLiveRefs};
 
 use code::{Code, Tracked};
 use refusal::Answer;
@@ -33,9 +34,24 @@ pub fn yexwalu_live_at(
     regs: &mut [u32],
     rows: &mut [u64],
 ) -> Answer
-    ensures { LiveAtCall
-        (record { kinds = kinds.now; ends = ends.now; refs = refs.now; blocks = blocks.now; classes = classes.now })
+    ensures call { LiveAtCall
+        (record {
+          kinds = kinds.now;
+          ends = ends.now;
+          refs = refs.now;
+          blocks = blocks.now;
+          classes = classes.now;
+        })
         (asked all) pc regs.old rows.old regs.new rows.new result }
+    ensures right { RightLiveAt
+        (record {
+          kinds = kinds.now;
+          ends = ends.now;
+          refs = refs.now;
+          blocks = blocks.now;
+          classes = classes.now;
+        })
+        (asked all) pc regs.old regs.new result }
 {
     let code = Code {
         kinds,
@@ -63,10 +79,25 @@ pub fn yexwalu_live_refs(
     regs: &mut [u32],
     rows: &mut [u64],
 ) -> Answer
-    ensures { LiveRefsCall
-        (record { kinds = kinds.now; ends = ends.now; refs = refs.now; blocks = blocks.now; classes = classes.now })
+    ensures call { LiveRefsCall
+        (record {
+          kinds = kinds.now;
+          ends = ends.now;
+          refs = refs.now;
+          blocks = blocks.now;
+          classes = classes.now;
+        })
         (asked all) pcs.old bounds.old regs.old rows.old
         pcs.new bounds.new regs.new rows.new result }
+    ensures right { RightLiveRefs
+        (record {
+          kinds = kinds.now;
+          ends = ends.now;
+          refs = refs.now;
+          blocks = blocks.now;
+          classes = classes.now;
+        })
+        (asked all) pcs.old bounds.old regs.old pcs.new bounds.new regs.new result }
 {
     let code = Code {
         kinds,

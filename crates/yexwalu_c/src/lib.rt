@@ -4,6 +4,7 @@
 
 pub mod collections;
 pub mod collections_joined;
+pub mod collections_wanted;
 pub mod handles;
 pub mod heaps;
 pub mod held_changes;

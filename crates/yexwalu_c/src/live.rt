@@ -2,6 +2,7 @@
 ghost use Rattle.roots.specs.Calls.{LiveAtCall};
 ghost use Rattle.root_map.specs.Calls.{LiveRefsCall};
 ghost use Rattle.yexwalu.specs.Live.{asked};
+ghost use Rattle.yexwalu.specs.RightLive.{RightLiveAt, RightLiveRefs};
 
 use refusal::Answer;
 
@@ -17,9 +18,24 @@ pub extern "C" fn yexwalu_live_at(
     regs: &mut [u32],
     rows: &mut [u64],
 ) -> Answer
-    ensures { LiveAtCall
-        (record { kinds = kinds.now; ends = ends.now; refs = refs.now; blocks = blocks.now; classes = classes.now })
+    ensures call { LiveAtCall
+        (record {
+          kinds = kinds.now;
+          ends = ends.now;
+          refs = refs.now;
+          blocks = blocks.now;
+          classes = classes.now;
+        })
         (asked all) pc regs.old rows.old regs.new rows.new result }
+    ensures right { RightLiveAt
+        (record {
+          kinds = kinds.now;
+          ends = ends.now;
+          refs = refs.now;
+          blocks = blocks.now;
+          classes = classes.now;
+        })
+        (asked all) pc regs.old regs.new result }
 {
     yexwalu::live::yexwalu_live_at(kinds, ends, refs, blocks, classes, all, pc, regs, rows)
 }
@@ -37,10 +53,25 @@ pub extern "C" fn yexwalu_live_refs(
     regs: &mut [u32],
     rows: &mut [u64],
 ) -> Answer
-    ensures { LiveRefsCall
-        (record { kinds = kinds.now; ends = ends.now; refs = refs.now; blocks = blocks.now; classes = classes.now })
+    ensures call { LiveRefsCall
+        (record {
+          kinds = kinds.now;
+          ends = ends.now;
+          refs = refs.now;
+          blocks = blocks.now;
+          classes = classes.now;
+        })
         (asked all) pcs.old bounds.old regs.old rows.old
         pcs.new bounds.new regs.new rows.new result }
+    ensures right { RightLiveRefs
+        (record {
+          kinds = kinds.now;
+          ends = ends.now;
+          refs = refs.now;
+          blocks = blocks.now;
+          classes = classes.now;
+        })
+        (asked all) pcs.old bounds.old regs.old pcs.new bounds.new regs.new result }
 {
     yexwalu::live::yexwalu_live_refs(
         kinds, ends, refs, blocks, classes, all, pcs, bounds, regs, rows,

@@ -1,7 +1,6 @@
 -- `history_calls::same` meets its contract.
 use mathlib.Core.Path.{sym, subst}
 use Rattle.heap.specs.Lent.{lent}
-use Rattle.door.specs.HeapCalls.{Asked}
 use Rattle.saves.specs.Saves.{words_of, save_of, same_number}
 use Rattle.histories.specs.Questions.{AsksBoth}
 use Rattle.histories.proofs.Doing.{comparisons-are-calls}

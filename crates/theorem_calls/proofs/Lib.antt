@@ -1,0 +1,3 @@
+-- Lemmas on two calls in turn.
+mod PageTurns
+mod HeapTurns
