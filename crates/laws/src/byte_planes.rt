@@ -2,22 +2,22 @@
 
 ghost use Rattle.laws.specs.Planes.{PlanesKeepLength, PlanesUndone, PlanesOfOne, PlanesPlace};
 
-// Planes keep the length.
+// Byte planes keep the length.
 pub fn planes_keep_the_length()
     ensures { PlanesKeepLength }
 {}
 
-// They are undone both ways.
+// Byte planes are undone both ways.
 pub fn planes_are_undone()
     ensures { PlanesUndone }
 {}
 
-// No two data have one column.
+// No two data have the same planes.
 pub fn planes_are_of_one()
     ensures { PlanesOfOne }
 {}
 
-// Which byte stands where.
+// Which byte of the data stands where in the planes.
 pub fn planes_place_each_byte()
     ensures { PlanesPlace }
 {}

@@ -7,7 +7,8 @@ pub fn dataflow_is_live()
     ensures { DataflowLive }
 {}
 
-// The registers listed at a safepoint are just those, of the classes asked for, rising.
+// The registers listed at a safepoint are those that some walk reads before writing, of the classes
+// asked for, rising.
 pub fn listed_registers_are_live()
     ensures { RegistersLive }
 {}

@@ -7,7 +7,7 @@ pub fn marking_fails_exactly()
     ensures { MarkingFails }
 {}
 
-// Else it marks with 1 exactly what is reached, and with 0 exactly what is not.
+// Marking that does not fail marks with 1 exactly what is reached, and with 0 exactly what is not.
 pub fn marking_marks_the_reached()
     ensures { MarkingMarks }
 {}

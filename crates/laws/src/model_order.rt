@@ -7,7 +7,7 @@ pub fn encoded_same_exactly()
     ensures { EncodedSameExactly }
 {}
 
-// A pairing by any relation is enough.
+// A pairing by any relation is enough for two models to be the same.
 pub fn any_pairing_is_enough<Pair>()
     ensures { AnyPairingSame Pair }
 {}
@@ -17,7 +17,7 @@ pub fn met_is_reached()
     ensures { MetIsReached }
 {}
 
-// Each is met once.
+// Each object is met once.
 pub fn each_is_met_once()
     ensures { MetOnce }
 {}

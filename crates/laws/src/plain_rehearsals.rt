@@ -22,7 +22,7 @@ pub fn few_are_held()
     ensures { FewHeld }
 {}
 
-// And they rise by turn.
+// The names that are held rise by turn.
 pub fn held_names_rise()
     ensures { HeldRise }
 {}

@@ -7,7 +7,7 @@ pub fn ranks_have_the_order()
     ensures { RankOrder }
 {}
 
-// And their differences.
+// Ranks of words of any width have the differences of the signed numbers.
 pub fn ranks_have_the_differences()
     ensures { RankDifferences }
 {}
@@ -17,7 +17,7 @@ pub fn descriptor_size_in_a_word()
     ensures { DescriptorSizeInWord }
 {}
 
-// In a table that is taken it always has.
+// In a table that is taken the size of a type's descriptor always has 64 bits.
 pub fn descriptor_size_is_exact()
     ensures { DescriptorSizeExact }
 {}

@@ -12,12 +12,12 @@ pub fn refused_exactly()
     ensures { RefusedExactly }
 {}
 
-// There is one answer.
+// There is one list of slots that is best.
 pub fn best_is_one()
     ensures { BestIsOne }
 {}
 
-// What the code's search ends with is that answer.
+// What the code's search ends with is what the two goings through find.
 pub fn search_answers()
     ensures { SearchAnswers }
 {}

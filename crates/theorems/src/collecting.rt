@@ -32,7 +32,7 @@ pub fn a_collection_ends_untraceable()
     ensures { CollectionEndsUntraceable }
 {}
 
-// There is one that keeps one object and drops another.
+// There is a joined collection that keeps one object and drops another.
 pub fn a_collection_keeps_and_drops()
     ensures { CollectionKeepsAndDrops }
 {}

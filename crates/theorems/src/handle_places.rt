@@ -18,7 +18,7 @@ pub fn stride_0_shows_nothing()
     ensures { ShowsNothing }
 {}
 
-// Walking all its elements shows nothing.
+// Walking all elements of an array of stride 0 shows nothing.
 pub fn stride_0_walk_shows_nothing()
     ensures { WalkShowsNothing }
 {}

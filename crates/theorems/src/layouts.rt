@@ -18,7 +18,7 @@ pub fn layout_where_0()
     ensures { LaidZero }
 {}
 
-// No two answers have the same numbers.
+// No two answers for a layout have the same numbers.
 pub fn layout_numbers_are_one_answer()
     ensures { LaidOnce }
 {}

@@ -32,7 +32,7 @@ pub fn earlier_reader_refuses_others()
     ensures { EarlierRefusesOthers }
 {}
 
-// And so to every page that is written.
+// The earlier reader answers 17 to every page that is written, and leaves lent memory as it was.
 pub fn earlier_reader_refuses()
     ensures { EarlierRefuses }
 {}

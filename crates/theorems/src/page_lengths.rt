@@ -23,7 +23,7 @@ pub fn page_is_bounded()
     ensures { WrittenBound }
 {}
 
-// An output of so many bytes suffices.
+// An output of 256 + 96 × slots + 2 × data bytes suffices for a page.
 pub fn bound_suffices()
     ensures { BoundSuffices }
 {}

@@ -2,7 +2,8 @@
 
 ghost use Rattle.page_runs.specs.Runs.{RunPrints};
 
-// A run prints the text that is defined for the whole input, however that came in parts.
+// A run of the program `page` prints the text that is defined for the whole input, however that
+// came in parts.
 pub fn page_run_prints()
     ensures { RunPrints }
 {}

@@ -1,14 +1,14 @@
-// Two saves of one model.
+// The order of two saves, and what `same` and `order` answer.
 
 ghost use Rattle.saves.specs.Once.{ComparingTold, ComparingZero, OrderOnce, SameOnce};
 ghost use Rattle.saves.specs.Right.{SwapTurns, OrderTransitive};
 
-// The order turns round where the saves are named the other way round.
+// The order of two saves turns round where they are named the other way round.
 pub fn swap_turns()
     ensures { SwapTurns }
 {}
 
-// The order is transitive.
+// The order of saves is transitive.
 pub fn order_is_transitive()
     ensures { OrderTransitive }
 {}
@@ -18,7 +18,7 @@ pub fn comparing_is_told()
     ensures { ComparingTold }
 {}
 
-// Their number is 0 exactly if an order was found.
+// The number of `same` and `order` is 0 exactly if an order was found.
 pub fn order_is_found_where_0()
     ensures { ComparingZero }
 {}

@@ -13,7 +13,7 @@ pub fn any_order_of_inputs()
     ensures { AnyOrderOfInputs }
 {}
 
-// Pages in any order give the same last line, whatever follows them.
+// The pages that an input begins with give the same last line in any order, whatever follows them.
 pub fn any_order_of_pages()
     ensures { AnyOrder }
 {}

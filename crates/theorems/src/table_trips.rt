@@ -18,12 +18,12 @@ pub fn no_read_is_refused_by_0()
     ensures { ReadNumbered }
 {}
 
-// Its number is 0 exactly if a table was read.
+// The number of `read_table` is 0 exactly if a table was read.
 pub fn table_is_read_where_0()
     ensures { ToldZero }
 {}
 
-// Equal numbers are one refusal, or tables that take equally much of each list.
+// Equal numbers of `read_table` are one refusal, or tables that take equally much of each list.
 pub fn read_numbers_are_one_answer()
     ensures { ToldOnce }
 {}
