@@ -32,7 +32,6 @@ use Rattle.traced.specs.Listing.{written_to}
 use Rattle.collection.specs.Shown.{shown}
 use Rattle.collection.specs.Collected.{graph, starts}
 use Rattle.wanted.specs.Outcome.{handle_at}
-use Rattle.wanted.specs.Way.{roots_for}
 use Rattle.wanted.proofs.BetweenPasses.{two-answers}
 use Rattle.wanted_door.specs.RootsFor.{listed, root_handles, Given as Wanting, table_in as wanting_table, tests as wanting_tests, roots_call, roots_out}
 use Rattle.wanted_door.specs.CollectWanted.{with_roots, collected_with, wanted_call}
