@@ -30,7 +30,7 @@ use Rattle.layout.proofs.Within.{dims-within, used-within}
 use lib.Dec.{ltb}
 use Rattle.layout.specs.declared.Layout.{Layout}
 use Rattle.values.specs.Values.{Names, Cell, bounds, scalar, logic, Below, cell_text, cells_text, cells_at, cells_by, part_cells, array_cells, inner_cells, element_cells, field_cells, width, value_line, bounds_text, element_path, field_path}
-use Rattle.values.specs.Inner.Lent.{names_of, line_at}
+use Rattle.values.specs.Names.{names_of, name_at}
 use Rattle.values.specs.Inner.Walk.{NextPlace, type_text, part_text, array_text, elements_text, fields_rest, fields_text}
 use Rattle.values.specs.declared.names.Lines.{Lines}
 
@@ -41,7 +41,7 @@ flat_map-append f (x ∷ xs) ys = ap (λ (z : List ℕ). f x ++ z) (flat_map-app
 
 -- a scalar's only cell
 one-cell : (T : Rattle.ty.specs.Types.Table) (N : Names) (next : Below) (end : ℕ) (elem : Bool) (t : ℕ) (d p : List ℕ) (at : ℕ) (fs : List ℕ) (e : Entry) →
-    ((a c k : ℕ) → e ≡ Array a c k → ⊥) → ((i n : ℕ) → e ≡ Record i n → ⊥) → cells_by T N next end elem t d p at (read_entry fs e) ≡ scalar p (N.type t) (bare e) (width elem (bare e)) at ∷ []
+    ((a c k : ℕ) → e ≡ Array a c k → ⊥) → ((i n : ℕ) → e ≡ Record i n → ⊥) → cells_by T N next end elem t d p at (read_entry fs e) ≡ scalar p (N.word t) (bare e) (width elem (bare e)) at ∷ []
 unfolding cells_by read_entry
 one-cell T N next end elem t d p at fs (Int lo hi) a r = refl
 one-cell T N next end elem t d p at fs Physical a r = refl
@@ -83,7 +83,7 @@ module _ (T : Lent) (N : Lines) (v : List ℕ) (left : ℕ) (elem : Bool) (t : �
       unfolding cells_by read_entry
       type-record i n q = rw (level, q) refl
 
-      pub type-scalar : ((a c k : ℕ) → e ≡ Array a c k → ⊥) → ((i n : ℕ) → e ≡ Record i n → ⊥) → cell_text v (scalar p ((names_of T N).type t) (bare e) (width elem (bare e)) at) ≡ type_text T N v left elem t d p at
+      pub type-scalar : ((a c k : ℕ) → e ≡ Array a c k → ⊥) → ((i n : ℕ) → e ≡ Record i n → ⊥) → cell_text v (scalar p ((names_of T N).word t) (bare e) (width elem (bare e)) at) ≡ type_text T N v left elem t d p at
       unfolding flat_map
       type-scalar a r = rw (level, one-cell (lent T) (names_of T N) (cells_at (lent T) (names_of T N) (length v) (left - 1)) (length v) elem t d p at T.fields.now e a r) (sym (append-nil _))
 
@@ -181,13 +181,13 @@ module _ (T : Lent) (N : Lines) (v : List ℕ) (left t first count : ℕ) (d p :
           unfolding field_cells flat_map
           field-beyond g = rw (fields-next T.fields.now first count i h, ← ef, ← ec, q, eo, ee, lt-leb _ _ g) refl
 
-          pub field-next : (name : List ℕ) (u : ℕ) → at + o ≤ length v → name ≡ line_at N.text.now N.fields.now (first + i) → first ≡ get_or T.types.now (4 * t + 1) 0 → u ≡ used + used_by c l.used →
+          pub field-next : (name : List ℕ) (u : ℕ) → at + o ≤ length v → name ≡ name_at N.text.now N.fields.now (first + i) → first ≡ get_or T.types.now (4 * t + 1) 0 → u ≡ used + used_by c l.used →
               part_text T N v left false f c (drop used d) (field_path p name i) (at + o) ++ fields_rest T N v left t first (i + 1) count d p at e u ≡ fields_rest T N v left t first i count d p at off used
           unfolding field_cells
           field-next name u g en ft eu =
               rw (fields-next T.fields.now first count i h, ← ef, ← ec, q, eo, ee, le-leb _ _ g, en, ← ft, eu, ← add-one i)
               (sym (flat_map-append (cell_text v)
-              (part_cells (lent T) (cells_at (lent T) (names_of T N) (length v) left) false f c (drop used d) (field_path p (line_at N.text.now N.fields.now (first + i)) i) (at + o))
+              (part_cells (lent T) (cells_at (lent T) (names_of T N) (length v) left) false f c (drop used d) (field_path p (name_at N.text.now N.fields.now (first + i)) i) (at + o))
               (field_cells (lent T) (names_of T N) (cells_at (lent T) (names_of T N) (length v) left) (length v) t (i + 1) (fields_from T.fields.now (first + (i + 1)) (count - (i + 1))) d p at e (used + used_by c l.used))))
 
 -- a slice from a place on is what is left

@@ -27,7 +27,7 @@ use Rattle.text.specs.Reading.{hex_digit_of}
 use Rattle.text.proofs.Laws.{hex-digit-forth}
 use Rattle.values.specs.Values.{code_letter, bit_at, codes_text}
 use Rattle.sheet.specs.Sheet.{hex_digits}
-use Rattle.values.specs.Values.{Cell, bounds, scalar, logic, number_at, code_at, remark, named_value, handle_remark, cell_text, cells_text, value_text, class_word, value_line, descriptor_line}
+use Rattle.values.specs.Values.{Cell, bounds, scalar, logic, number_at, code_at, remark, handle_remark, cell_text, cells_text, scalar_text, class_word, value_line, descriptor_line}
 use Rattle.sheet.specs.Sheet.{signed_decimal}
 
 -- a number and what follows it, which does not begin with a digit
@@ -123,7 +123,7 @@ line-apart p w x y r u e =
 -- what a cell shows is the same in both
 pub data Same (v w : List ℕ) : Cell → Type 0 where
   same-bounds : (p b : List ℕ) → Same v w (bounds p b)
-  same-scalar : (p name : List ℕ) (y : Ty) (n at : ℕ) → number_at v at n ≡ number_at w at n → Same v w (scalar p name y n at)
+  same-scalar : (p : List ℕ) (words : ℕ → List ℕ) (y : Ty) (n at : ℕ) → number_at v at n ≡ number_at w at n → Same v w (scalar p words y n at)
   same-logic : (p : List ℕ) (n at : ℕ) → ((j : ℕ) → j < n → code_at v at j ≡ code_at w at j) → Same v w (logic p n at)
 
 pub data AllSame (v w : List ℕ) : List Cell → Type 0 where
@@ -151,29 +151,29 @@ descriptor-apart d e r u bd be q =
 -- SCALARS: what one value determines. Real (16 digits), Int of four bytes and the codes of logic arrays go the same way.
 
 -- an enumeration's position, a file's number and a handle
-pub enum-determined : (name : List ℕ) (n k l x y : ℕ) (r u : List ℕ) → value_text name n x (enum k l) ++ (10 ∷ r) ≡ value_text name n y (enum k l) ++ (10 ∷ u) → (x ≡ y) × (r ≡ u)
-unfolding value_text
-enum-determined name n k l x y r u e = decimal-line (named_value name) (λ z s. stops-remark (Rattle.values.specs.Values.word_at z (Rattle.values.specs.Values.after_colon name)) s) x y r u e
+pub enum-determined : (words : ℕ → List ℕ) (n k l x y : ℕ) (r u : List ℕ) → scalar_text words n x (enum k l) ++ (10 ∷ r) ≡ scalar_text words n y (enum k l) ++ (10 ∷ u) → (x ≡ y) × (r ≡ u)
+unfolding scalar_text
+enum-determined words n k l x y r u e = decimal-line (λ z. remark (words z)) (λ z s. stops-remark (words z) s) x y r u e
 
-pub access-determined : (name : List ℕ) (n x y : ℕ) (r u : List ℕ) → value_text name n x access ++ (10 ∷ r) ≡ value_text name n y access ++ (10 ∷ u) → (x ≡ y) × (r ≡ u)
-unfolding value_text
-access-determined name n x y r u e = decimal-line handle_remark stops-handle_remark x y r u e
+pub access-determined : (words : ℕ → List ℕ) (n x y : ℕ) (r u : List ℕ) → scalar_text words n x access ++ (10 ∷ r) ≡ scalar_text words n y access ++ (10 ∷ u) → (x ≡ y) × (r ≡ u)
+unfolding scalar_text
+access-determined words n x y r u e = decimal-line handle_remark stops-handle_remark x y r u e
 
-pub protected-determined : (name : List ℕ) (n x y : ℕ) (r u : List ℕ) → value_text name n x protected ++ (10 ∷ r) ≡ value_text name n y protected ++ (10 ∷ u) → (x ≡ y) × (r ≡ u)
-unfolding value_text
-protected-determined name n x y r u e = decimal-line handle_remark stops-handle_remark x y r u e
+pub protected-determined : (words : ℕ → List ℕ) (n x y : ℕ) (r u : List ℕ) → scalar_text words n x protected ++ (10 ∷ r) ≡ scalar_text words n y protected ++ (10 ∷ u) → (x ≡ y) × (r ≡ u)
+unfolding scalar_text
+protected-determined words n x y r u e = decimal-line handle_remark stops-handle_remark x y r u e
 
-pub physical-determined : (name : List ℕ) (n x y : ℕ) (r u : List ℕ) → x < 2 ^ 64 → y < 2 ^ 64 → value_text name n x physical ++ (10 ∷ r) ≡ value_text name n y physical ++ (10 ∷ u) → (x ≡ y) × (r ≡ u)
-unfolding value_text
-physical-determined name n x y r u lx ly e = signed_decimal-line (2 ^ 63) (named_value name 0) (λ s. stops-remark (Rattle.values.specs.Values.word_at 0 (Rattle.values.specs.Values.after_colon name)) s) x y r u lx ly e
+pub physical-determined : (words : ℕ → List ℕ) (n x y : ℕ) (r u : List ℕ) → x < 2 ^ 64 → y < 2 ^ 64 → scalar_text words n x physical ++ (10 ∷ r) ≡ scalar_text words n y physical ++ (10 ∷ u) → (x ≡ y) × (r ≡ u)
+unfolding scalar_text
+physical-determined words n x y r u lx ly e = signed_decimal-line (2 ^ 63) (remark (words 0)) (λ s. stops-remark (words 0) s) x y r u lx ly e
 
-pub file-determined : (name : List ℕ) (n x y : ℕ) (r u : List ℕ) → value_text name n x file ++ (10 ∷ r) ≡ value_text name n y file ++ (10 ∷ u) → (x ≡ y) × (r ≡ u)
-unfolding value_text
-file-determined name n x y r u e = let q = decimal-apart x y (10 ∷ r) (10 ∷ u) (stops_end r) (stops_end u) e in (q.0, tail-of 10 r u q.1)
+pub file-determined : (words : ℕ → List ℕ) (n x y : ℕ) (r u : List ℕ) → scalar_text words n x file ++ (10 ∷ r) ≡ scalar_text words n y file ++ (10 ∷ u) → (x ≡ y) × (r ≡ u)
+unfolding scalar_text
+file-determined words n x y r u e = let q = decimal-apart x y (10 ∷ r) (10 ∷ u) (stops_end r) (stops_end u) e in (q.0, tail-of 10 r u q.1)
 
-pub int-determined : (name : List ℕ) (lo hi x y : ℕ) (r u : List ℕ) → x < 2 ^ 64 → y < 2 ^ 64 → value_text name 8 x (int lo hi) ++ (10 ∷ r) ≡ value_text name 8 y (int lo hi) ++ (10 ∷ u) → (x ≡ y) × (r ≡ u)
-unfolding value_text
-int-determined name lo hi x y r u lx ly e =
+pub int-determined : (words : ℕ → List ℕ) (lo hi x y : ℕ) (r u : List ℕ) → x < 2 ^ 64 → y < 2 ^ 64 → scalar_text words 8 x (int lo hi) ++ (10 ∷ r) ≡ scalar_text words 8 y (int lo hi) ++ (10 ∷ u) → (x ≡ y) × (r ≡ u)
+unfolding scalar_text
+int-determined words lo hi x y r u lx ly e =
     let q = signed_decimal-apart (2 ^ 63) x y (10 ∷ r) (10 ∷ u) lx ly (stops_end r) (stops_end u) e in
     (q.0, tail-of 10 r u q.1)
 
@@ -196,9 +196,9 @@ hex_digits-apart (suc n) a b s t la lb e =
     let r : a % 16 ≡ b % 16 = digit-apart (a % 16) (b % 16) (omega arith) (omega arith) h in
     (omega (arith, q.0, r), tail-of (hex_digit (b % 16)) s t (ap (λ (x : ℕ). x ∷ s) (sym h) ∙ q.1))
 
-pub real-determined : (name : List ℕ) (n x y : ℕ) (r u : List ℕ) → x < 16 ^ 16 → y < 16 ^ 16 → value_text name n x real ++ (10 ∷ r) ≡ value_text name n y real ++ (10 ∷ u) → (x ≡ y) × (r ≡ u)
-unfolding value_text
-real-determined name n x y r u lx ly e = let q = hex_digits-apart 16 x y (10 ∷ r) (10 ∷ u) lx ly e in (q.0, tail-of 10 r u q.1)
+pub real-determined : (words : ℕ → List ℕ) (n x y : ℕ) (r u : List ℕ) → x < 16 ^ 16 → y < 16 ^ 16 → scalar_text words n x real ++ (10 ∷ r) ≡ scalar_text words n y real ++ (10 ∷ u) → (x ≡ y) × (r ≡ u)
+unfolding scalar_text
+real-determined words n x y r u lx ly e = let q = hex_digits-apart 16 x y (10 ∷ r) (10 ∷ u) lx ly e in (q.0, tail-of 10 r u q.1)
 
 -- LOGIC: a letter for each code
 
@@ -254,7 +254,7 @@ Sized protected n = n ≤ 8
 
 abbrev pub GoodCell : Cell → Type 0
 GoodCell (bounds p b) = Unit {0}
-GoodCell (scalar p name y n at) = Sized y n
+GoodCell (scalar p words y n at) = Sized y n
 GoodCell (logic p n at) = Unit {0}
 
 abbrev pub GoodCells : List Cell → Type 0
@@ -268,28 +268,28 @@ doubled (suc n) =
     let p : 2 ^ (8 * suc n) ≡ 2 ^ (8 * suc n - 1) * 2 = ap (λ (m : ℕ). 2 ^ m) e ∙ pow-suc 2 (8 * suc n - 1) in
     omega (arith, p)
 
-module _ (v w : List ℕ) (fv : Fits v) (fw : Fits w) (p name : List ℕ) (n at : ℕ) (r u : List ℕ) where
-  scalar-determined : (y : Ty) → Sized y n → value_line p (class_word y) (value_text name n (number_at v at n) y) ++ r ≡ value_line p (class_word y) (value_text name n (number_at w at n) y) ++ u → Same v w (scalar p name y n at) × (r ≡ u)
-  unfolding value_text
+module _ (v w : List ℕ) (fv : Fits v) (fw : Fits w) (p : List ℕ) (words : ℕ → List ℕ) (n at : ℕ) (r u : List ℕ) where
+  scalar-determined : (y : Ty) → Sized y n → value_line p (class_word y) (scalar_text words n (number_at v at n) y) ++ r ≡ value_line p (class_word y) (scalar_text words n (number_at w at n) y) ++ u → Same v w (scalar p words y n at) × (r ≡ u)
+  unfolding scalar_text
   scalar-determined missing z e = absurd z
   scalar-determined (int lo hi) z e =
       let q = signed_decimal-apart (2 ^ (8 * n - 1)) (number_at v at n) (number_at w at n) (10 ∷ r) (10 ∷ u) (omega (arith, (fv at n z).0, doubled n)) (omega (arith, (fw at n z).0, doubled n)) (stops_end r) (stops_end u)
       (line-apart p _ _ _ r u e) in
-      (same-scalar p name (int lo hi) n at q.0, tail-of 10 r u q.1)
-  scalar-determined physical z e = let q = physical-determined name n _ _ r u (fv at n z).1 (fw at n z).1 (line-apart p _ _ _ r u e) in (same-scalar p name physical n at q.0, q.1)
-  scalar-determined (enum k l) z e = let q = enum-determined name n k l _ _ r u (line-apart p _ _ _ r u e) in (same-scalar p name (enum k l) n at q.0, q.1)
-  scalar-determined real z e = let q = real-determined name n _ _ r u (fv at n z).1 (fw at n z).1 (line-apart p _ _ _ r u e) in (same-scalar p name real n at q.0, q.1)
+      (same-scalar p words (int lo hi) n at q.0, tail-of 10 r u q.1)
+  scalar-determined physical z e = let q = physical-determined words n _ _ r u (fv at n z).1 (fw at n z).1 (line-apart p _ _ _ r u e) in (same-scalar p words physical n at q.0, q.1)
+  scalar-determined (enum k l) z e = let q = enum-determined words n k l _ _ r u (line-apart p _ _ _ r u e) in (same-scalar p words (enum k l) n at q.0, q.1)
+  scalar-determined real z e = let q = real-determined words n _ _ r u (fv at n z).1 (fw at n z).1 (line-apart p _ _ _ r u e) in (same-scalar p words real n at q.0, q.1)
   scalar-determined (array a c k) z e = absurd z
   scalar-determined (fields fs) z e = absurd z
-  scalar-determined access z e = let q = access-determined name n _ _ r u (line-apart p _ _ _ r u e) in (same-scalar p name access n at q.0, q.1)
-  scalar-determined file z e = let q = file-determined name n _ _ r u (line-apart p _ _ _ r u e) in (same-scalar p name file n at q.0, q.1)
-  scalar-determined protected z e = let q = protected-determined name n _ _ r u (line-apart p _ _ _ r u e) in (same-scalar p name protected n at q.0, q.1)
+  scalar-determined access z e = let q = access-determined words n _ _ r u (line-apart p _ _ _ r u e) in (same-scalar p words access n at q.0, q.1)
+  scalar-determined file z e = let q = file-determined words n _ _ r u (line-apart p _ _ _ r u e) in (same-scalar p words file n at q.0, q.1)
+  scalar-determined protected z e = let q = protected-determined words n _ _ r u (line-apart p _ _ _ r u e) in (same-scalar p words protected n at q.0, q.1)
 
 module _ (v w : List ℕ) (fv : Fits v) (fw : Fits w) where
   cell-determined : (c : Cell) → GoodCell c → (r u : List ℕ) → cell_text v c ++ r ≡ cell_text w c ++ u → Same v w c × (r ≡ u)
   unfolding cell_text
   cell-determined (bounds p b) g r u e = (same-bounds p b, append_cancel_left _ r u e)
-  cell-determined (scalar p name y n at) g r u e = scalar-determined v w fv fw p name n at r u y g e
+  cell-determined (scalar p words y n at) g r u e = scalar-determined v w fv fw p words n at r u y g e
   cell-determined (logic p n at) g r u e = logic-determined v w p n at r u e
 
   -- equal texts of the same cells show equal values

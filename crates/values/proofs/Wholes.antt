@@ -20,7 +20,7 @@ use Rattle.ty.specs.Inner.Lent.{lent}
 use Rattle.ty.specs.declared.Table.{Table as Lent}
 use Rattle.values.specs.Values.{Parts, parts_of, text_of, object_text}
 use Rattle.values.specs.Calls.{length_answer, text_answer, text_after}
-use Rattle.values.specs.Inner.Lent.{names_of}
+use Rattle.values.specs.Names.{names_of}
 use Rattle.sheet.specs.Sheet.{sheet, with_text}
 use Rattle.values.specs.Inner.Walk.{FoundParts, whole_text}
 use Rattle.values.specs.declared.names.Lines.{Lines}

@@ -2,6 +2,9 @@
 use Rattle.std.specs.Prelude.{ℕ, List, length, leb, min, ◌-◌, ◌^◌, if◌then◌else◌}
 use Rattle.std.proofs.Math.Option.{Option, none, some}
 use Rattle.text.specs.Put.{put_text}
+use Rattle.std.specs.Prelude.{Ok, Err, Result as Outcome}
+use Rattle.refusal.specs.Told.{number_of}
+use Rattle.refusal.specs.declared.Refusal.{Refusal}
 use Rattle.word.specs.Result.{Result, ok, refused}
 
 -- 2^64 - 1 stands for that and more
@@ -16,3 +19,8 @@ text_answer (some s) room = if leb (length s) room then ok (length s) else refus
 unfoldable pub text_after : Option (List ℕ) → List ℕ → List ℕ
 text_after none out = out
 text_after (some s) out = if leb (length s) (length out) then put_text out 0 s else out
+
+-- an answer of one number
+abbrev pub answer : Outcome ℕ Refusal → Result ℕ
+answer (Ok n) = ok n
+answer (Err e) = refused (number_of e)

@@ -1,4 +1,5 @@
 -- The definitions that the contracts cite.
 pub mod Values
+pub mod Names
 pub mod Calls
 pub mod Inner

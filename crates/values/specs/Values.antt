@@ -1,10 +1,11 @@
--- The values of an object as text, by its type (docs/FORMAT.md, section 7): a line for each array and for each value, in the order of the places of
+-- The values of an object as text, by its type (docs/FORMAT.md, The values of an object): a line for each array and for each value, in the order of the places of
 -- crates/trace/specs/Places.antt. A line has three fields: where it stands, what it is, and its value. What follows a blank in a value is for people.
 use Rattle.std.specs.Prelude.{ℕ, zero, suc, ◌+◌, ◌-◌, ◌*◌, ◌/◌, ◌%◌, ◌^◌, max, Bool, true, false, List, [], ◌∷◌, ◌++◌, length, get_or, take, drop, leb, ltb, eqb, Ok, Err, unwrap_or, if◌then◌else◌}
 use mathlib.Core.List.{flat_map}
 use Rattle.std.proofs.Math.Option.{Option, none, some}
 use Rattle.word.specs.Le.{le}
-use Rattle.text.specs.Text.{ascii, decimal, hex_digit, hex, line}
+use Rattle.text.specs.Text.{ascii, decimal, hex, line}
+use Rattle.sheet.specs.Sheet.{signed_decimal, hex_digits}
 use Rattle.ty.specs.Types.{Ty, Ty.missing, Ty.int, Ty.physical, Ty.enum, Ty.real, Ty.array, Ty.fields, Ty.access, Ty.file, Ty.protected, Field, Field.field, Const, Const.plain, Const.other, Table, type_at, const_at, none as no_const}
 use Rattle.ty.specs.Words.{word_of, on_word, rank, round_up}
 use Rattle.ty.specs.Scalars.{scalar_size, elem_size, logic_leaf}
@@ -12,9 +13,9 @@ use Rattle.ty.specs.DescSize.{desc_size}
 use Rattle.layout.specs.Layout.{Lay, Dims, under, used_by, desc_word, dims_of, array_of, layout_at, layout_of, on_laid}
 use Rattle.layout.specs.declared.Layout.{Layout}
 
--- The names beside a table: of type t, and of field i of the record t. They say nothing of values.
+-- The words of type t: the literals of an enumeration, the units of a physical type; and the name of field i of the record t. They say nothing of values.
 pub record Names : Type 0 where
-  pub type : ℕ → List ℕ
+  pub word : ℕ → ℕ → List ℕ
   pub field : ℕ → ℕ → List ℕ
 
 -- NUMBERS
@@ -23,49 +24,20 @@ pub record Names : Type 0 where
 abbrev pub number_at : List ℕ → ℕ → ℕ → ℕ
 number_at v at n = le (take n (drop at v))
 
--- a word of two's complement whose negative numbers begin at `half`
-unfoldable pub signed_decimal : (half x : ℕ) → List ℕ
-signed_decimal half x = if ltb x half then decimal x else (45 ∷ decimal (half + half - x))
-
--- the n lowest hexadecimal digits, highest first
-unfoldable pub hex_digits : ℕ → ℕ → List ℕ
-hex_digits zero x = []
-hex_digits (suc n) x = hex_digits n (x / 16) ++ (hex_digit (x % 16) ∷ [])
-
--- FOR PEOPLE: what a name says of a value
-
--- up to a byte
-unfoldable pub until : ℕ → List ℕ → List ℕ
-until stop [] = []
-until stop (b ∷ t) = if eqb b stop then [] else b ∷ until stop t
-
--- after the first colon and the blank behind it
-unfoldable pub after_colon : List ℕ → List ℕ
-after_colon [] = []
-after_colon (b ∷ t) = if eqb b 58 then drop 1 t else after_colon t
-
--- the word k of a text with a blank between words, count_is from 0
-unfoldable pub word_at : ℕ → List ℕ → List ℕ
-word_at zero t = until 32 t
-word_at (suc k) [] = []
-word_at (suc k) (b ∷ t) = if eqb b 32 then word_at k t else word_at (suc k) t
+-- FOR PEOPLE
 
 -- a blank and a remark, nothing where there is none
 unfoldable pub remark : List ℕ → List ℕ
 remark [] = []
 remark (b ∷ t) = 32 ∷ b ∷ t
 
--- the literal or the unit k of a type's name
-abbrev pub named_value : List ℕ → ℕ → List ℕ
-named_value name k = remark (word_at k (after_colon name))
-
--- where a handle leads by itself (section 4)
+-- where a handle leads by itself: to a slot of its heap
 unfoldable pub handle_remark : ℕ → List ℕ
 handle_remark h = if eqb h 0 then ascii " null" else (ascii " slot " ++ decimal (h / 2 ^ 32 % 2 ^ 24))
 
 -- SCALARS
 
--- what it is, and its value x of n bytes
+-- what it is, and its value x of n bytes, with the words of its type
 unfoldable pub class_word : Ty → List ℕ
 class_word missing = []
 class_word (int lo hi) = ascii "Int"
@@ -78,17 +50,17 @@ class_word access = ascii "Access"
 class_word file = ascii "File"
 class_word protected = ascii "Protected"
 
-unfoldable pub value_text : (name : List ℕ) (n x : ℕ) → Ty → List ℕ
-value_text name n x missing = []
-value_text name n x (int lo hi) = signed_decimal (2 ^ (8 * n - 1)) x
-value_text name n x physical = signed_decimal (2 ^ 63) x ++ named_value name 0
-value_text name n x (enum k l) = decimal x ++ named_value name x
-value_text name n x real = hex_digits 16 x
-value_text name n x (array e c k) = []
-value_text name n x (fields fs) = []
-value_text name n x access = decimal x ++ handle_remark x
-value_text name n x file = decimal x
-value_text name n x protected = decimal x ++ handle_remark x
+unfoldable pub scalar_text : (words : ℕ → List ℕ) (n x : ℕ) → Ty → List ℕ
+scalar_text words n x missing = []
+scalar_text words n x (int lo hi) = signed_decimal (2 ^ (8 * n - 1)) x
+scalar_text words n x physical = signed_decimal (2 ^ 63) x ++ remark (words 0)
+scalar_text words n x (enum k l) = decimal x ++ remark (words x)
+scalar_text words n x real = hex_digits 16 x
+scalar_text words n x (array e c k) = []
+scalar_text words n x (fields fs) = []
+scalar_text words n x access = decimal x ++ handle_remark x
+scalar_text words n x file = decimal x
+scalar_text words n x protected = decimal x ++ handle_remark x
 
 -- a line: where, what, its value
 abbrev pub value_line : (path what value : List ℕ) → List ℕ
@@ -159,10 +131,10 @@ codes_text v at (suc n) = code_letter (code_at v at n) ∷ codes_text v at n
 
 -- CELLS: what a value of a type shows, and where, whatever the bytes there
 
--- the bounds of an array; a scalar of a type by name and class, in so many bytes from a place on; the positions of a logic array from a place on
+-- the bounds of an array; a scalar of a type by its words and class, in so many bytes from a place on; the positions of a logic array from a place on
 pub data Cell : Type 0 where
   bounds : (path value : List ℕ) → Cell
-  scalar : (path name : List ℕ) (what : Ty) (size at : ℕ) → Cell
+  scalar : (path : List ℕ) (words : ℕ → List ℕ) (what : Ty) (size at : ℕ) → Cell
   logic : (path : List ℕ) (count at : ℕ) → Cell
 
 -- the level below: a value of a type, under a descriptor, at a path, from a byte on; true for an element of an array
@@ -212,7 +184,7 @@ unfoldable pub cells_by : Table → Names → Below → (end : ℕ) → Bool →
 cells_by T N next end elem t d p at missing = []
 cells_by T N next end elem t d p at (array e c k) = array_cells T next end t e c k d p at
 cells_by T N next end elem t d p at (fields fs) = field_cells T N next end t 0 fs d p at 0 0
-cells_by T N next end elem t d p at y = scalar p (N.type t) y (width elem y) at ∷ []
+cells_by T N next end elem t d p at y = scalar p (N.word t) y (width elem y) at ∷ []
 
 -- with so many levels left, itself among them
 unfoldable pub cells_at : Table → Names → (end levels : ℕ) → Below
@@ -223,7 +195,7 @@ cells_at T N end (suc n) elem t d p at = cells_by T N (cells_at T N end n) end e
 
 unfoldable pub cell_text : List ℕ → Cell → List ℕ
 cell_text v (bounds p b) = value_line p (ascii "Array") b
-cell_text v (scalar p name y n at) = value_line p (class_word y) (value_text name n (number_at v at n) y)
+cell_text v (scalar p words y n at) = value_line p (class_word y) (scalar_text words n (number_at v at n) y)
 cell_text v (logic p n at) = value_line p (ascii "Logic") (codes_text v at n)
 
 -- what cells show of the bytes v

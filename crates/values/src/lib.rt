@@ -8,7 +8,8 @@ ghost use Rattle.values.specs.Values.{object_text, parts_of};
 ghost use Rattle.sheet.specs.Sheet.{sheet, with_text};
 ghost use Rattle.values.specs.Inner.Walk.{FoundParts, whole_text};
 ghost use Rattle.values.specs.Calls.{length_answer, text_answer, text_after};
-ghost use Rattle.values.specs.Inner.Lent.{names_of, answer};
+ghost use Rattle.values.specs.Names.{names_of};
+ghost use Rattle.values.specs.Calls.{answer};
 
 use names::Lines;
 use path::Path;
@@ -18,7 +19,6 @@ use ty::Table;
 
 pub mod names; // names beside a table, and what they say of a value
 pub mod path; // where a value stands
-pub mod sheet; // a list that text goes into
 pub mod walk; // the walk over one object
 
 // How many bytes the descriptor of an object of type t has, and how many its value.

@@ -2,9 +2,9 @@
 ghost use Rattle.std.specs.Prelude.{◌≡◌, ◌+◌, ◌-◌, ◌^◌, ◌<◌, ◌≤◌, ◌++◌, [], ◌∷◌, drop};
 ghost use Rattle.values.specs.Values.{number_at, index_from, positions, index_text, direction, bound_text, bounds_text, field_path, element_path};
 ghost use Rattle.sheet.specs.Sheet.{sheet, with_text};
-ghost use Rattle.values.specs.Inner.Lent.{path_text};
+ghost use Rattle.values.specs.Inner.Paths.{path_text};
 
-use crate::{names, sheet};
+use crate::names;
 
 // The object itself; a field by its name and its number in the record; an element by its number, under the bounds of so many dimensions.
 #[derive(Clone, Copy)]

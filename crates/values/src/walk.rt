@@ -2,14 +2,15 @@
 ghost use Rattle.std.specs.Prelude.{◌≡◌, ◌+◌, ◌-◌, ◌*◌, ◌/◌, ◌^◌, ◌<◌, ◌≤◌, Bool, length, get_or};
 ghost use mathlib.Core.Logic.{◌⊎◌};
 ghost use Rattle.ty.specs.Inner.Rows.{bare};
-ghost use Rattle.values.specs.Values.{class_word, value_text, width, handle_remark, code_letter, code_at, bit_at, cell_text, scalar, logic};
+ghost use Rattle.values.specs.Values.{class_word, scalar_text, width, handle_remark, code_letter, code_at, bit_at, cell_text, scalar, logic};
 ghost use Rattle.sheet.specs.Sheet.{sheet, with_text};
-ghost use Rattle.values.specs.Inner.Lent.{path_text, names_of};
+ghost use Rattle.values.specs.Inner.Paths.{path_text};
+ghost use Rattle.values.specs.Names.{names_of, word_at};
 ghost use Rattle.values.specs.Inner.Walk.{NextPlace, head_text, type_text, part_text, array_text, elements_text, fields_text};
 
 use crate::names::Lines;
 use crate::path::Path;
-use crate::{names, path, sheet};
+use crate::{names, path};
 use ty::{Entry, NO_CONST, Table};
 
 // What a scalar is.
@@ -66,19 +67,19 @@ fn half(n: u64) -> u64
 }
 
 // The value x of a scalar of n bytes.
-fn put_value(name: &[u8], n: u64, x: u64, e: Entry, out: &mut [u8], at: usize) -> usize
+fn put_value(names: &Lines, t: u64, n: u64, x: u64, e: Entry, out: &mut [u8], at: usize) -> usize
     requires { (elem : Bool) × (n ≡ width elem (bare e)) }
-    ensures { sheet out.new result ≡ with_text (sheet out.old at) (value_text name.now n x (bare e)) }
+    ensures { sheet out.new result ≡ with_text (sheet out.old at) (scalar_text (word_at names.now.text.now names.now.types.now names.now.words.now t) n x (bare e)) }
 {
     match e {
         Entry::Int { .. } => sheet::signed_decimal(out, at, half(n), x),
         Entry::Physical => {
             let m = sheet::signed_decimal(out, at, 9223372036854775808, x);
-            names::put_named(name, 0, out, m)
+            names::put_word(names, t, 0, out, m)
         }
         Entry::Enum { .. } => {
             let m = sheet::decimal(out, at, x);
-            names::put_named(name, x, out, m)
+            names::put_word(names, t, x, out, m)
         }
         Entry::Real => sheet::hex_digits(out, at, 16, x),
         Entry::Array { .. } => at,
@@ -173,13 +174,12 @@ impl ObjectWalk<'_, '_, '_> {
         out: &mut [u8],
         n: usize,
     ) -> usize
-        ensures { sheet out.new result ≡ with_text (sheet out.old n) (cell_text self.now.object.now (scalar (path_text path.now) ((names_of self.now.table self.now.names).type t) (bare e) (width elem (bare e)) at)) }
+        ensures { sheet out.new result ≡ with_text (sheet out.old n) (cell_text self.now.object.now (scalar (path_text path.now) ((names_of self.now.table self.now.names).word t) (bare e) (width elem (bare e)) at)) }
     {
-        let name = names::line_at(self.names.text, self.names.types, t as usize);
         let size = width(elem, e);
         let x = path::number(self.object, at, size as usize);
         let mut m = self.put_head(path, class_word(e), out, n);
-        m = put_value(name, size, x, e, out, m);
+        m = put_value(&self.names, t, size, x, e, out, m);
         sheet::push(out, m, b'\n')
     }
 
@@ -366,7 +366,7 @@ impl ObjectWalk<'_, '_, '_> {
             if self.object.len() - at < o as usize {
                 return m;
             }
-            let name = names::line_at(self.names.text, self.names.fields, first + i);
+            let name = names::name_at(self.names.text, self.names.fields, first + i);
             let here = path::field(&*path, name, i as u64);
             m = (&*self).part(
                 false,

@@ -6,8 +6,8 @@ use Rattle.text.specs.Text.{comma}
 use Rattle.ty.specs.View.{fields_from}
 use Rattle.ty.specs.Inner.Lent.{lent}
 use Rattle.ty.specs.declared.Table.{Table}
-use Rattle.values.specs.Values.{Cell, until, cells_text, cells_at, part_cells, array_cells, element_cells, field_cells, element_path, descriptor_line, Parts}
-use Rattle.values.specs.Inner.Lent.{names_of}
+use Rattle.values.specs.Values.{Cell, cells_text, cells_at, part_cells, array_cells, element_cells, field_cells, element_path, descriptor_line, Parts}
+use Rattle.values.specs.Names.{names_of, until}
 use Rattle.values.specs.declared.names.Lines.{Lines}
 
 -- a line up to its value
@@ -19,7 +19,7 @@ pub record NextPlace (len o r : ℕ) : Type 0 where
   pub within : o ≤ len → r ≡ o
   pub beyond : len < o → len < r
 
--- a byte stands first at r from a place on, or r is the end
+-- from a place on, r is the first byte below `stop`, or the end
 pub record Ends (t : List ℕ) (from stop r : ℕ) : Type 0 where
   pub start : from ≤ r
   pub inside : r ≤ length t

@@ -1,6 +1,6 @@
 use mathlib.Core.Path.{refl, sym}
 use Rattle.values.specs.Values.{field_path, element_path}
-use Rattle.values.specs.Inner.Lent.{path_text}
+use Rattle.values.specs.Inner.Paths.{path_text}
 use Rattle.sheet.proofs.Sheets.{with_text-none, with_text-as, and_then, byte-then, then-byte}
 use Rattle.values.proofs.path.+put_path.Goals as goal
 

@@ -10,7 +10,7 @@ use Rattle.std.specs.Prelude.{if◌then◌else◌}
 use Rattle.text.specs.Text.{ascii}
 use Rattle.ty.proofs.Ranges.{record-within, part-start, part_end}
 use Rattle.values.specs.Values.{value_line, bounds_text}
-use Rattle.values.specs.Inner.Lent.{path_text}
+use Rattle.values.specs.Inner.Paths.{path_text}
 use Rattle.values.specs.Inner.Walk.{elements_text, part_text}
 use Rattle.sheet.proofs.Sheets.{with_text-none, with_text-as, and_then, then-byte, done, turn}
 use Rattle.values.proofs.Scalars.{head-line}
@@ -119,7 +119,7 @@ fields-loop-i-preserved t c = (
   used-fits c.args.self.now.table _ _ c.loop-i.used c.used_by-used.result c.args.desc.now _ c.loop-i.invariant.0 (rest-under c.args.self.now.table _ _ c.loop-i.used c.args.desc.now _ c.layout_field.ensures ∙ c.in-Ok.is) c.used_by-used.ensures,
   turn _ _ _ _ _ _ _
       (field-next c.args.self.now.table c.args.self.now.names c.args.self.now.object.now c.args.left c.args.of c.args.first c.args.count c.args.desc.now (path_text c.args.path.now) c.args.at c.loop-i.i c.loop-i.off c.loop-i.used _ _ c.loop-i-test.true refl refl _ (rest-under c.args.self.now.table _ _ c.loop-i.used c.args.desc.now _ c.layout_field.ensures ∙ c.in-Ok.is) _ (sym c.align_up.ensures ∙ c.in-Some.is) _ (sym c.sum.ensures ∙ c.in-Some-sum.is)
-      c.line_at-name.result.now (c.loop-i.used + c.used_by-used.result) (omega (arith, c.if-self-at.false, c.requires.1)) c.line_at-name.ensures c.requires.2 (ap (λ (x : ℕ). c.loop-i.used + x) c.used_by-used.ensures))
+      c.name_at-name.result.now (c.loop-i.used + c.used_by-used.result) (omega (arith, c.if-self-at.false, c.requires.1)) c.name_at-name.ensures c.requires.2 (ap (λ (x : ℕ). c.loop-i.used + x) c.used_by-used.ensures))
       (with_text-as _ _ _ _
       (ap (λ (y : List ℕ). part_text c.args.self.now.table c.args.self.now.names c.args.self.now.object.now c.args.left false (get_or c.args.self.now.table.fields.now (2 * (c.args.first + c.loop-i.i)) 0) (get_or c.args.self.now.table.fields.now (2 * (c.args.first + c.loop-i.i) + 1) 0) y (path_text c.field-here.result) (c.args.at + c.in-Some.o)) (rest-is c.loop-i.used c.args.desc.now)
       ∙ ap (λ (q : List ℕ). part_text c.args.self.now.table c.args.self.now.names c.args.self.now.object.now c.args.left false (get_or c.args.self.now.table.fields.now (2 * (c.args.first + c.loop-i.i)) 0) (get_or c.args.self.now.table.fields.now (2 * (c.args.first + c.loop-i.i) + 1) 0) (drop c.loop-i.used c.args.desc.now) q (c.args.at + c.in-Some.o)) c.field-here.ensures)
