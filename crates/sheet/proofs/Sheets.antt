@@ -5,8 +5,8 @@ use mathlib.Core.Bool.{Bool}
 use Rattle.std.specs.Prelude.{if◌then◌else◌}
 use mathlib.Core.Path.{◌≡◌, refl, sym, ap, ◌∙◌}
 use native.Mathlib.Omega.{arith}
-use lib.ListN.{length, get_or, take, drop, set, length-set}
-use borrow.Author.Tests.{lt-ltb}
+use lib.ListN.{length, get_or, take, drop, set, length-set, length-append}
+use borrow.Author.Tests.{lt-ltb, le-ltb}
 use Rattle.word.proofs.PutLaws.{put_one, put-put}
 use Rattle.text.specs.Put.{put_text}
 use Rattle.text.proofs.Putting.{put-nothing}
@@ -105,3 +105,16 @@ with_text-page page at (b ∷ t) h g =
     ap (λ (x : Sheet). (with_text x t).page) (with_byte-in page at b (omega arith) (omega arith))
     ∙ with_text-page (set page at b) (at + 1) t (omega (arith, n)) (omega (arith, n))
     ∙ ap (λ (x : List ℕ). put_text x (at + 1) t) (put_one page at b (omega arith)) ∙ put-put page at (b ∷ []) t (omega arith)
+
+-- what is past the list is counted alone
+pub with_text-past : (page : List ℕ) (at : ℕ) (t : List ℕ) → length page ≤ at → at ≤ 2 ^ 64 - 1 → with_text (sheet page at) t ≡ sheet page (min (at + length t) (2 ^ 64 - 1))
+unfolding with_text with_byte
+with_text-past page at [] h g = let e : min (at + 0) (2 ^ 64 - 1) ≡ at = omega arith in rw e refl
+with_text-past page at (b ∷ t) h g =
+    let e : min (min (at + 1) (2 ^ 64 - 1) + length t) (2 ^ 64 - 1) ≡ min (at + suc (length t)) (2 ^ 64 - 1) = omega arith in
+    rw (le-ltb at (length page) h) (with_text-past page (min (at + 1) (2 ^ 64 - 1)) t (omega arith) (omega arith) ∙ ap (λ (n : ℕ). sheet page n) e)
+
+pub length-hex_digits : (n x : ℕ) → length (hex_digits n x) ≡ n
+unfolding hex_digits
+length-hex_digits zero x = refl
+length-hex_digits (suc n) x = let r = length-hex_digits n (x / 16) in omega (arith, r, length-append (hex_digits n (x / 16)) (hex_digit (x % 16) ∷ []))

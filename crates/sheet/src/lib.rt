@@ -20,6 +20,9 @@ pub fn push(out: &mut [u8], at: usize, b: u8) -> usize
 pub fn literal(out: &mut [u8], at: usize, text: &[u8]) -> usize
     ensures { sheet out.new result ≡ with_text (sheet out.old at) text.now }
 {
+    if out.len() <= at {
+        return at.saturating_add(text.len());
+    }
     let mut n = at;
     for b in text {
         n = push(out, n, *b);
@@ -27,16 +30,26 @@ pub fn literal(out: &mut [u8], at: usize, text: &[u8]) -> usize
     n
 }
 
-/// Puts a number in decimal.
-pub fn decimal(out: &mut [u8], at: usize, x: u64) -> usize
+// Puts a number in decimal, digit by digit.
+fn decimal_digits(out: &mut [u8], at: usize, x: u64) -> usize
     ensures { sheet out.new result ≡ with_text (sheet out.old at) (decimal x) }
 {
     if x < 10 {
         push(out, at, 48 + (x as u8))
     } else {
-        let n = decimal(out, at, x / 10);
+        let n = decimal_digits(out, at, x / 10);
         push(out, n, 48 + ((x % 10) as u8))
     }
+}
+
+/// Puts a number in decimal.
+pub fn decimal(out: &mut [u8], at: usize, x: u64) -> usize
+    ensures { sheet out.new result ≡ with_text (sheet out.old at) (decimal x) }
+{
+    if out.len() <= at {
+        return at.saturating_add(text::decimal_len(x));
+    }
+    decimal_digits(out, at, x)
 }
 
 /// Puts a word in decimal, of which those from `half` on are negative.
@@ -58,15 +71,25 @@ fn hex_digit(d: u8) -> u8
     if d < 10 { b'0' + d } else { b'a' - 10 + d }
 }
 
-/// Puts the lowest `count` hexadecimal digits of a word, highest first.
-pub fn hex_digits(out: &mut [u8], at: usize, count: u64, x: u64) -> usize
+// Puts the lowest `count` hexadecimal digits of a word, highest first, digit by digit.
+fn word_digits(out: &mut [u8], at: usize, count: u64, x: u64) -> usize
     ensures { sheet out.new result ≡ with_text (sheet out.old at) (hex_digits count x) }
 {
     if count == 0 {
         return at;
     }
-    let n = hex_digits(out, at, count - 1, x / 16);
+    let n = word_digits(out, at, count - 1, x / 16);
     push(out, n, hex_digit((x % 16) as u8))
+}
+
+/// Puts the lowest `count` hexadecimal digits of a word, highest first.
+pub fn hex_digits(out: &mut [u8], at: usize, count: u64, x: u64) -> usize
+    ensures { sheet out.new result ≡ with_text (sheet out.old at) (hex_digits count x) }
+{
+    if out.len() <= at {
+        return at.saturating_add(count as usize);
+    }
+    word_digits(out, at, count, x)
 }
 
 /// Puts bytes in hexadecimal, two digits each.

@@ -6,7 +6,7 @@ use Rattle.text.specs.Text.{hex_digit}
 use Rattle.sheet.specs.Sheet.{hex_digits}
 use Rattle.sheet.specs.Sheet.{sheet, with_text}
 use Rattle.sheet.proofs.Sheets.{with_text-none, then-byte, with_byte-as}
-use Rattle.sheet.proofs.+hex_digits.Goals as goal
+use Rattle.sheet.proofs.+word_digits.Goals as goal
 
 none : (n x : ℕ) → n ≡ 0 → hex_digits n x ≡ []
 unfolding hex_digits
@@ -22,4 +22,4 @@ pub returns-then-count-eq0 : goal.returns-then-count-eq0
 returns-then-count-eq0 t c = rw (none c.args.count c.args.x c.if-count-eq0.true) (sym (with_text-none _))
 
 pub returns : goal.returns
-returns t c = rw (more c.args.count c.args.x c.if-count-eq0.false) (then-byte _ _ _ _ _ c.hex_digits-n.ensures (with_byte-as _ _ _ _ c.hex_digit.ensures c.push.ensures))
+returns t c = rw (more c.args.count c.args.x c.if-count-eq0.false) (then-byte _ _ _ _ _ c.word_digits-n.ensures (with_byte-as _ _ _ _ c.hex_digit.ensures c.push.ensures))
