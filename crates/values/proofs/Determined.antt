@@ -27,6 +27,7 @@ use Rattle.text.specs.Reading.{hex_digit_of}
 use Rattle.text.proofs.Laws.{hex-digit-forth}
 use Rattle.values.specs.Values.{code_letter, bit_at, codes_text}
 use Rattle.sheet.specs.Sheet.{hex_digits}
+use Rattle.values.specs.Agreement.{Agrees, bounds-agree, scalar-agrees, logic-agrees, AllAgree, no-cells, more-cells}
 use Rattle.values.specs.Values.{Cell, bounds, scalar, logic, number_at, code_at, remark, handle_remark, cell_text, cells_text, scalar_text, class_word, value_line, descriptor_line}
 use Rattle.sheet.specs.Sheet.{signed_decimal}
 
@@ -120,18 +121,8 @@ line-apart p w x y r u e =
 
 -- CELLS
 
--- what a cell shows is the same in both
-pub data Same (v w : List ℕ) : Cell → Type 0 where
-  same-bounds : (p b : List ℕ) → Same v w (bounds p b)
-  same-scalar : (p : List ℕ) (words : ℕ → List ℕ) (y : Ty) (n at : ℕ) → number_at v at n ≡ number_at w at n → Same v w (scalar p words y n at)
-  same-logic : (p : List ℕ) (n at : ℕ) → ((j : ℕ) → j < n → code_at v at j ≡ code_at w at j) → Same v w (logic p n at)
-
-pub data AllSame (v w : List ℕ) : List Cell → Type 0 where
-  no-cells : AllSame v w []
-  more-cells : (c : Cell) (cs : List Cell) → Same v w c → AllSame v w cs → AllSame v w (c ∷ cs)
-
 -- a text that determines each cell, and leaves the rest of the text, determines them all
-pub cells-determined : (v w : List ℕ) → ((c : Cell) (r u : List ℕ) → cell_text v c ++ r ≡ cell_text w c ++ u → Same v w c × (r ≡ u)) → (cs : List Cell) (r u : List ℕ) → cells_text v cs ++ r ≡ cells_text w cs ++ u → AllSame v w cs × (r ≡ u)
+pub cells-determined : (v w : List ℕ) → ((c : Cell) (r u : List ℕ) → cell_text v c ++ r ≡ cell_text w c ++ u → Agrees v w c × (r ≡ u)) → (cs : List Cell) (r u : List ℕ) → cells_text v cs ++ r ≡ cells_text w cs ++ u → AllAgree v w cs × (r ≡ u)
 unfolding flat_map
 cells-determined v w one [] r u e = (no-cells, e)
 cells-determined v w one (c ∷ cs) r u e =
@@ -227,11 +218,11 @@ codes-apart v w at (suc n) s t e =
     let q = codes-apart v w at n s t (tail-of (code_letter (code_at w at n)) _ _ (ap (λ (x : ℕ). x ∷ (codes_text v at n ++ s)) (sym h) ∙ e)) in
     (λ j g. ⊎_elim (λ (a : n ≤ j). let z : j ≡ n = omega arith in rw z (letter-apart (code_at v at n) (code_at w at n) (code-small v at n) (code-small w at n) h)) (λ (b : j < n). q.0 j b) (le-or-lt n j), q.1)
 
-pub logic-determined : (v w : List ℕ) (p : List ℕ) (n at : ℕ) (r u : List ℕ) → cell_text v (logic p n at) ++ r ≡ cell_text w (logic p n at) ++ u → Same v w (logic p n at) × (r ≡ u)
+pub logic-determined : (v w : List ℕ) (p : List ℕ) (n at : ℕ) (r u : List ℕ) → cell_text v (logic p n at) ++ r ≡ cell_text w (logic p n at) ++ u → Agrees v w (logic p n at) × (r ≡ u)
 unfolding cell_text
 logic-determined v w p n at r u e =
     let q = codes-apart v w at n (10 ∷ r) (10 ∷ u) (line-apart p (ascii "Logic") (codes_text v at n) (codes_text w at n) r u e) in
-    (same-logic p n at q.0, tail-of 10 r u q.1)
+    (logic-agrees p n at q.0, tail-of 10 r u q.1)
 
 -- ALL CELLS
 
@@ -269,31 +260,31 @@ doubled (suc n) =
     omega (arith, p)
 
 module _ (v w : List ℕ) (fv : Fits v) (fw : Fits w) (p : List ℕ) (words : ℕ → List ℕ) (n at : ℕ) (r u : List ℕ) where
-  scalar-determined : (y : Ty) → Sized y n → value_line p (class_word y) (scalar_text words n (number_at v at n) y) ++ r ≡ value_line p (class_word y) (scalar_text words n (number_at w at n) y) ++ u → Same v w (scalar p words y n at) × (r ≡ u)
+  scalar-determined : (y : Ty) → Sized y n → value_line p (class_word y) (scalar_text words n (number_at v at n) y) ++ r ≡ value_line p (class_word y) (scalar_text words n (number_at w at n) y) ++ u → Agrees v w (scalar p words y n at) × (r ≡ u)
   unfolding scalar_text
   scalar-determined missing z e = absurd z
   scalar-determined (int lo hi) z e =
       let q = signed_decimal-apart (2 ^ (8 * n - 1)) (number_at v at n) (number_at w at n) (10 ∷ r) (10 ∷ u) (omega (arith, (fv at n z).0, doubled n)) (omega (arith, (fw at n z).0, doubled n)) (stops_end r) (stops_end u)
       (line-apart p _ _ _ r u e) in
-      (same-scalar p words (int lo hi) n at q.0, tail-of 10 r u q.1)
-  scalar-determined physical z e = let q = physical-determined words n _ _ r u (fv at n z).1 (fw at n z).1 (line-apart p _ _ _ r u e) in (same-scalar p words physical n at q.0, q.1)
-  scalar-determined (enum k l) z e = let q = enum-determined words n k l _ _ r u (line-apart p _ _ _ r u e) in (same-scalar p words (enum k l) n at q.0, q.1)
-  scalar-determined real z e = let q = real-determined words n _ _ r u (fv at n z).1 (fw at n z).1 (line-apart p _ _ _ r u e) in (same-scalar p words real n at q.0, q.1)
+      (scalar-agrees p words (int lo hi) n at q.0, tail-of 10 r u q.1)
+  scalar-determined physical z e = let q = physical-determined words n _ _ r u (fv at n z).1 (fw at n z).1 (line-apart p _ _ _ r u e) in (scalar-agrees p words physical n at q.0, q.1)
+  scalar-determined (enum k l) z e = let q = enum-determined words n k l _ _ r u (line-apart p _ _ _ r u e) in (scalar-agrees p words (enum k l) n at q.0, q.1)
+  scalar-determined real z e = let q = real-determined words n _ _ r u (fv at n z).1 (fw at n z).1 (line-apart p _ _ _ r u e) in (scalar-agrees p words real n at q.0, q.1)
   scalar-determined (array a c k) z e = absurd z
   scalar-determined (fields fs) z e = absurd z
-  scalar-determined access z e = let q = access-determined words n _ _ r u (line-apart p _ _ _ r u e) in (same-scalar p words access n at q.0, q.1)
-  scalar-determined file z e = let q = file-determined words n _ _ r u (line-apart p _ _ _ r u e) in (same-scalar p words file n at q.0, q.1)
-  scalar-determined protected z e = let q = protected-determined words n _ _ r u (line-apart p _ _ _ r u e) in (same-scalar p words protected n at q.0, q.1)
+  scalar-determined access z e = let q = access-determined words n _ _ r u (line-apart p _ _ _ r u e) in (scalar-agrees p words access n at q.0, q.1)
+  scalar-determined file z e = let q = file-determined words n _ _ r u (line-apart p _ _ _ r u e) in (scalar-agrees p words file n at q.0, q.1)
+  scalar-determined protected z e = let q = protected-determined words n _ _ r u (line-apart p _ _ _ r u e) in (scalar-agrees p words protected n at q.0, q.1)
 
 module _ (v w : List ℕ) (fv : Fits v) (fw : Fits w) where
-  cell-determined : (c : Cell) → GoodCell c → (r u : List ℕ) → cell_text v c ++ r ≡ cell_text w c ++ u → Same v w c × (r ≡ u)
+  cell-determined : (c : Cell) → GoodCell c → (r u : List ℕ) → cell_text v c ++ r ≡ cell_text w c ++ u → Agrees v w c × (r ≡ u)
   unfolding cell_text
-  cell-determined (bounds p b) g r u e = (same-bounds p b, append_cancel_left _ r u e)
+  cell-determined (bounds p b) g r u e = (bounds-agree p b, append_cancel_left _ r u e)
   cell-determined (scalar p words y n at) g r u e = scalar-determined v w fv fw p words n at r u y g e
   cell-determined (logic p n at) g r u e = logic-determined v w p n at r u e
 
   -- equal texts of the same cells show equal values
-  pub all-determined : (cs : List Cell) → GoodCells cs → (r u : List ℕ) → cells_text v cs ++ r ≡ cells_text w cs ++ u → AllSame v w cs × (r ≡ u)
+  pub all-determined : (cs : List Cell) → GoodCells cs → (r u : List ℕ) → cells_text v cs ++ r ≡ cells_text w cs ++ u → AllAgree v w cs × (r ≡ u)
   unfolding flat_map
   all-determined [] g r u e = (no-cells, e)
   all-determined (c ∷ cs) g r u e =
