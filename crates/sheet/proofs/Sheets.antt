@@ -5,15 +5,14 @@ use mathlib.Core.Bool.{Bool}
 use Rattle.std.specs.Prelude.{if◌then◌else◌}
 use mathlib.Core.Path.{◌≡◌, refl, sym, ap, ◌∙◌}
 use native.Mathlib.Omega.{arith}
-use lib.ListN.{length, get_or, take, drop, set, length-set, length-append}
+use lib.ListN.{length, get_or, drop, set, length-set, length-append}
 use borrow.Author.Tests.{lt-ltb, le-ltb}
 use Rattle.word.proofs.PutLaws.{put_one, put-put}
 use Rattle.text.specs.Put.{put_text}
 use Rattle.text.proofs.Putting.{put-nothing}
 use Rattle.std.proofs.lemmas.List.{drop_more, drop_all}
-use Rattle.text.specs.Text.{decimal, hex, hex_digit}
-use Rattle.text.proofs.Laws.{decimal-one, decimal-more}
-use Rattle.sheet.specs.Sheet.{signed_decimal, hex_digits}
+use Rattle.text.specs.Text.{hex, hex_digit}
+use Rattle.sheet.specs.Sheet.{hex_digits}
 use Rattle.sheet.specs.Sheet.{Sheet, sheet, with_byte, with_text}
 
 pub with_text-append : (s : Sheet) (a b : List ℕ) → with_text s (a ++ b) ≡ with_text (with_text s a) b

@@ -1,5 +1,5 @@
 -- The text of an object determines its values. Assumes nothing.
-use Prim.Native.Nat.{ℕ, ◌+◌, ◌-◌}
+use Prim.Native.Nat.{ℕ, ◌-◌}
 use mathlib.Core.List.{List}
 use mathlib.Core.Bool.{Bool, true, false}
 use mathlib.Core.Option.{Option, none, some}
@@ -14,8 +14,7 @@ use Rattle.ty.specs.Types.{Table}
 use Rattle.ty.specs.Words.{Word, on_word}
 use Rattle.ty.specs.DescSize.{desc_size}
 use Rattle.layout.specs.Layout.{Lay, layout_of, on_laid}
-use Rattle.values.specs.Values.{Names, Parts, parts_of, text_of, object_cells, object_text}
-use Rattle.values.specs.Agreement.{AllAgree}
+use Rattle.values.specs.Values.{Names, Parts, parts_of, text_of}
 use Rattle.values.proofs.Goods.{same-parts, determined}
 use Rattle.value_theorems.specs.TextDetermines.{whole, TextDetermines}
 use Rattle.value_theorems.proofs.Numbers.{fits}
@@ -53,6 +52,9 @@ text-determines T N t v w s bv bw ev ew =
     let p = has-parts T N t v s (parts_of T t v) ev in
     let q = has-parts T N t w s (parts_of T t w) ew in
     let dp = desc-bytes T t v p.0 bv p.1 in
-    let dq = desc-bytes T t w q.0 bw q.1 in
-    (p.0, p.1, q.1 ∙ ap some (sym (same-parts T N t v w s p.0 q.0 p.1 q.1 dp dq ev ew)),
-    determined T N t v w s p.0 q.0 p.1 q.1 dp dq ev ew (fits (whole v p.0) (bytes_take _ v bv)) (fits (whole w p.0) (bytes_take _ w bw)))
+    let dq = desc-bytes T t w q.0 bw q.1 in (
+      p.0,
+      p.1,
+      q.1 ∙ ap some (sym (same-parts T N t v w s p.0 q.0 p.1 q.1 dp dq ev ew)),
+      determined T N t v w s p.0 q.0 p.1 q.1 dp dq ev ew (fits (whole v p.0) (bytes_take _ v bv)) (fits (whole w p.0) (bytes_take _ w bw)),
+    )

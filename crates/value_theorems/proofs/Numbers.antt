@@ -1,14 +1,13 @@
 -- What numbers of bytes are. Assumes nothing.
-use Prim.Native.Nat.{ℕ, zero, suc, ◌+◌, ◌*◌, ◌^◌, ◌<◌, ◌≤◌, min}
+use Prim.Native.Nat.{ℕ, zero, suc, ◌+◌, ◌*◌, ◌^◌, ◌<◌, ◌≤◌}
 use mathlib.Core.List.{List, [], ◌∷◌}
-use mathlib.Core.Path.{◌≡◌, refl, ap, sym, ◌∙◌}
+use mathlib.Core.Path.{◌≡◌, ap, ◌∙◌}
 use native.Mathlib.Omega.{arith}
 use lib.Pow.{pow-add}
 use lib.ListN.{length, take, drop}
 use Rattle.text.specs.Text.{Bytes}
 use Rattle.word.specs.Le.{le}
 use Rattle.planes.proofs.Adding.{bytes_take, bytes_drop}
-use Rattle.values.specs.Values.{number_at}
 use Rattle.values.proofs.Determined.{Fits}
 
 above-zero : (n : ℕ) → 0 < 2 ^ (8 * n)

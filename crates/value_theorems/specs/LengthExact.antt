@@ -1,5 +1,5 @@
 -- The length that is answered for a text is exact: one byte less is refused with 7, so much and more is enough, and the text of that length is written.
-use Rattle.std.specs.Prelude.{ℕ, ◌+◌, ◌-◌, ◌^◌, ◌<◌, ◌≤◌, ◌≡◌, List, length}
+use Rattle.std.specs.Prelude.{ℕ, ◌-◌, ◌^◌, ◌<◌, ◌≤◌, ◌≡◌, List}
 use Rattle.std.proofs.Math.Option.{Option}
 use Rattle.word.specs.Result.{ok, refused}
 use Rattle.values.specs.Calls.{length_answer, text_answer}

@@ -9,15 +9,13 @@ ghost use Rattle.value_theorems.specs.LengthExact.{LengthExact};
 /// hides nothing but padding and what follows the value.
 pub fn text_determines_values()
     ensures { TextDetermines }
-{
-}
+{}
 
 /// What `value_length` answers is the least room in which `value_text` does not answer 7, and what
 /// it answers there.
 pub fn length_is_exact()
     ensures { LengthExact }
-{
-}
+{}
 
 #[cfg(test)]
 mod tests {
@@ -30,15 +28,17 @@ mod tests {
     const TYPES: [u64; 20] = [
         0, 0, 100, 0, 4, 0, 4294967295, 1, 6, 0, 0, 0, 5, 0, 3, 0, 2, 3, 0, 0,
     ];
+
     const FIELDS: [u32; 6] = [2, 4294967295, 0, 4294967295, 1, 4294967295];
 
     // The object of slot 1 of docs/samples/record.page.
     const NODE: [u8; 48] = [
-        1, 0, 0, 0, 0, 0, 0, 0, 1, 0, 0, 0, 0, 0, 0, 0, 0, 0, 0, 0, 0, 0, 0, 0, 1, 0, 0, 0, 0, 0, 0,
-        1, 40, 0, 0, 0, 0, 0, 0, 0, 7, 0, 0, 0, 0, 0, 0, 0,
+        1, 0, 0, 0, 0, 0, 0, 0, 1, 0, 0, 0, 0, 0, 0, 0, 0, 0, 0, 0, 0, 0, 0, 0, 1, 0, 0, 0, 0, 0,
+        0, 1, 40, 0, 0, 0, 0, 0, 0, 0, 7, 0, 0, 0, 0, 0, 0, 0,
     ];
 
-    const NODE_TEXT: &[u8] = b"descriptor,010000000000000001000000000000000000000000000000\n.next,Access,72057594037927937 slot 0\n.level,Int,40\n.steps,Array,1 to 1\n.steps(1),Int,7\n";
+    const NODE_TEXT: &[u8] =
+        b"descriptor,010000000000000001000000000000000000000000000000\n.next,Access,72057594037927937 slot 0\n.level,Int,40\n.steps,Array,1 to 1\n.steps(1),Int,7\n";
 
     // Answers whether the object of type t has this text, and each shorter list is refused and kept.
     fn has_text(t: u64, data: &[u8], want: &[u8]) -> bool {
@@ -56,7 +56,12 @@ mod tests {
         };
         let mut out = [7u8; 200];
         let n = want.len();
-        let short = value_text(&table, &names, t, data, &mut out[..n - 1]) == Err(Refusal::ShortList) && out[0] == 7;
+        if n == 0 || out.len() <= n {
+            return false;
+        }
+        let short = value_text(&table, &names, t, data, &mut out[..n - 1])
+            == Err(Refusal::ShortList)
+            && out[0] == 7;
         let length = value_length(&table, &names, t, data) == Ok(n as u64);
         let whole = value_text(&table, &names, t, data, &mut out) == Ok(n as u64);
         short && length && whole && &out[..n] == want && out[n] == 7

@@ -16,7 +16,7 @@ use Rattle.refusal.specs.declared.Refusal.{Refusal}
 use Rattle.ty.specs.Types.{Ty, Ty.missing, Field, Field.field, Const, Const.plain, Const.other, const_at, none as no_const}
 use Rattle.ty.specs.Words.{word_of, round_up}
 use Rattle.ty.specs.Scalars.{logic_leaf}
-use Rattle.ty.specs.View.{entry_of, entry_at, read_ty, read_entry, fields_from, part_at, read_part, consts_of}
+use Rattle.ty.specs.View.{entry_of, entry_at, read_ty, read_entry, fields_from, part_at, read_part}
 use Rattle.ty.specs.Inner.Lent.{lent}
 use Rattle.ty.specs.Inner.Rows.{bare}
 use Rattle.ty.specs.declared.Table.{Table as Lent}
@@ -24,7 +24,7 @@ use Rattle.ty.specs.declared.Entry.{Entry}
 use Rattle.ty.specs.declared.Entry.TheVariants.{Int, Physical, Enum, Real, Array, Record, Access, File, Protected}
 use Rattle.ty.proofs.Lookup.{type-at, const-at, le-or-lt}
 use Rattle.ty.proofs.WalkLaws.{fields-first, fields-last, fields-next}
-use Rattle.std.specs.Prelude.{Option, Result}
+use Rattle.std.specs.Prelude.{Option}
 use Rattle.layout.specs.Layout.{Lay, Dims, on_ok, dims_of, under, used_by, array_of, layout_at}
 use Rattle.layout.proofs.Within.{dims-within, used-within}
 use lib.Dec.{ltb}

@@ -1,11 +1,10 @@
 -- The text of an object determines its descriptor and what its cells show: two objects of one type with equal texts have equal values. Assumes nothing.
 use Prim.Native.Nat.{ℕ, zero, suc, ◌+◌, ◌-◌, ◌*◌, ◌/◌, ◌%◌, ◌^◌, ◌≤◌, ◌<◌, max}
 use mathlib.Core.List.{List, [], ◌∷◌, ◌++◌, append_assoc, flat_map}
-use mathlib.Core.Option.{Option, none, some}
+use mathlib.Core.Option.{none}
 use mathlib.Core.Path.{◌≡◌, refl, sym, ap, ◌∙◌}
-use mathlib.Core.Logic.{◌⊎◌, inl, inr, ⊎_elim}
+use mathlib.Core.Logic.{⊎_elim}
 use native.Mathlib.Omega.{arith}
-use lib.ListN.{length, take, drop}
 use lib.Dec.{eqb}
 use mathlib.Core.Bool.{Bool, true, false}
 use Rattle.std.specs.Prelude.{if◌then◌else◌}
@@ -13,8 +12,8 @@ use borrow.Author.Tests.{lt-ltb, le-ltb}
 use Rattle.std.proofs.lemmas.List.{append_cancel_left}
 use Rattle.ty.proofs.Lookup.{le-or-lt}
 use Rattle.ty.specs.Types.{Ty, Ty.missing, Ty.int, Ty.physical, Ty.enum, Ty.real, Ty.array, Ty.fields, Ty.access, Ty.file, Ty.protected}
-use Rattle.text.specs.Text.{ascii, decimal, hex, line, newline, comma, Bytes}
-use Rattle.text.specs.Reading.{give, read_decimal, read_hex, digit_of, ◌>>=◌}
+use Rattle.text.specs.Text.{ascii, decimal, hex, line, comma, Bytes}
+use Rattle.text.specs.Reading.{read_decimal, read_hex, digit_of}
 use Rattle.text.specs.Inner.Answer.{Stops}
 use Rattle.text.proofs.Laws.{some_inj, none-not-some, decimal-forth, hex-forth}
 use lib.ListN.{get_or}

@@ -1,7 +1,6 @@
 -- The parts of an object. Assumes nothing.
 use Prim.Native.Nat.{ℕ, ◌+◌, ◌-◌, ◌^◌, ◌≤◌, ◌<◌, min}
 use mathlib.Core.List.{List}
-use mathlib.Core.Bool.{Bool, true, false}
 use mathlib.Core.Option.{Option, none, some}
 use mathlib.Core.Path.{◌≡◌, refl, sym, ap, ◌∙◌}
 use native.Mathlib.Omega.{arith}
@@ -14,8 +13,7 @@ use Rattle.ty.specs.DescSize.{desc_size}
 use Rattle.layout.specs.Layout.{layout_of}
 use Rattle.layout.specs.declared.Layout.{Layout}
 use lib.Seq.{length-take-le}
-use Rattle.text.specs.Put.{put_text}
-use Rattle.word.specs.Result.{Result, ok, refused}
+use Rattle.word.specs.Result.{ok, refused}
 use Rattle.ty.specs.Inner.Lent.{lent}
 use Rattle.ty.specs.declared.Table.{Table as Lent}
 use Rattle.values.specs.Values.{Parts, parts_of, text_of, object_text}

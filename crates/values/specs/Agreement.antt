@@ -12,4 +12,3 @@ pub data Agrees (v w : List ℕ) : Cell → Type 0 where
 pub data AllAgree (v w : List ℕ) : List Cell → Type 0 where
   no-cells : AllAgree v w []
   more-cells : (c : Cell) (cs : List Cell) → Agrees v w c → AllAgree v w cs → AllAgree v w (c ∷ cs)
-

@@ -1,6 +1,6 @@
 -- The values of an object as text, by its type (docs/FORMAT.md, The values of an object): a line for each array and for each value, in the order of the places of
 -- crates/trace/specs/Places.antt. A line has three fields: where it stands, what it is, and its value. What follows a blank in a value is for people.
-use Rattle.std.specs.Prelude.{ℕ, zero, suc, ◌+◌, ◌-◌, ◌*◌, ◌/◌, ◌%◌, ◌^◌, max, Bool, true, false, List, [], ◌∷◌, ◌++◌, length, get_or, take, drop, leb, ltb, eqb, Ok, Err, unwrap_or, if◌then◌else◌}
+use Rattle.std.specs.Prelude.{ℕ, zero, suc, ◌+◌, ◌-◌, ◌*◌, ◌/◌, ◌%◌, ◌^◌, max, Bool, true, false, List, [], ◌∷◌, ◌++◌, length, get_or, take, drop, leb, eqb, Ok, Err, unwrap_or, if◌then◌else◌}
 use mathlib.Core.List.{flat_map}
 use Rattle.std.proofs.Math.Option.{Option, none, some}
 use Rattle.word.specs.Le.{le}
@@ -10,7 +10,7 @@ use Rattle.ty.specs.Types.{Ty, Ty.missing, Ty.int, Ty.physical, Ty.enum, Ty.real
 use Rattle.ty.specs.Words.{word_of, on_word, rank, round_up}
 use Rattle.ty.specs.Scalars.{scalar_size, elem_size, logic_leaf}
 use Rattle.ty.specs.DescSize.{desc_size}
-use Rattle.layout.specs.Layout.{Lay, Dims, under, used_by, desc_word, dims_of, array_of, layout_at, layout_of, on_laid}
+use Rattle.layout.specs.Layout.{Dims, under, used_by, desc_word, dims_of, array_of, layout_at, layout_of, on_laid}
 use Rattle.layout.specs.declared.Layout.{Layout}
 
 -- The words of type t: the literals of an enumeration, the units of a physical type; and the name of field i of the record t. They say nothing of values.

@@ -14,8 +14,8 @@ ghost use Rattle.values.specs.Calls.{answer};
 use names::Lines;
 use path::Path;
 use refusal::Refusal;
-use walk::ObjectWalk;
 use ty::Table;
+use walk::ObjectWalk;
 
 pub mod names; // names beside a table, and what they say of a value
 pub mod path; // where a value stands

@@ -1,6 +1,5 @@
-use mathlib.Core.Path.{sym, ap, ◌∙◌}
+use mathlib.Core.Path.{sym, ◌∙◌}
 use Rattle.text.proofs.Laws.{decimal-one, decimal-more}
-use Rattle.sheet.specs.Sheet.{sheet, with_text}
 use Rattle.sheet.proofs.Sheets.{with_text-one, then-byte}
 use Rattle.sheet.proofs.+decimal_digits.Goals as goal
 

@@ -1,10 +1,9 @@
 use Prim.Native.Nat.{ℕ, zero, suc, ◌-◌, ◌/◌, ◌%◌}
-use mathlib.Core.List.{List, [], ◌∷◌, ◌++◌}
-use mathlib.Core.Path.{◌≡◌, refl, sym, ap, ◌∙◌}
+use mathlib.Core.List.{[], ◌∷◌, ◌++◌}
+use mathlib.Core.Path.{◌≡◌, refl, sym}
 use native.Mathlib.Omega.{arith}
 use Rattle.text.specs.Text.{hex_digit}
 use Rattle.sheet.specs.Sheet.{hex_digits}
-use Rattle.sheet.specs.Sheet.{sheet, with_text}
 use Rattle.sheet.proofs.Sheets.{with_text-none, then-byte, with_byte-as}
 use Rattle.sheet.proofs.+word_digits.Goals as goal
 

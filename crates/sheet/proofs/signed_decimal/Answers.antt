@@ -1,10 +1,9 @@
-use Prim.Native.Nat.{ℕ, ◌+◌, ◌-◌}
-use mathlib.Core.Path.{◌≡◌, sym, ap, ◌∙◌}
+use Prim.Native.Nat.{◌+◌, ◌-◌}
+use mathlib.Core.Path.{◌≡◌, ap, ◌∙◌}
 use native.Mathlib.Omega.{arith}
 use borrow.Author.Tests.{lt-ltb, le-ltb}
 use Rattle.text.specs.Text.{decimal}
 use Rattle.sheet.specs.Sheet.{signed_decimal}
-use Rattle.sheet.specs.Sheet.{sheet, with_text}
 use Rattle.sheet.proofs.Sheets.{with_text-as, byte-then}
 use Rattle.sheet.proofs.signed_decimal.Goals as goal
 

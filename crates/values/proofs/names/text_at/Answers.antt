@@ -1,8 +1,7 @@
 use Prim.Native.Nat.{ℕ}
-use mathlib.Core.List.{List, []}
+use mathlib.Core.List.{[]}
 use mathlib.Core.Path.{◌≡◌, refl, sym}
 use native.Mathlib.Omega.{arith}
-use lib.ListN.{drop}
 use Rattle.std.proofs.lemmas.List.{drop_all}
 use Rattle.values.specs.Names.{until}
 use Rattle.values.proofs.names.text_at.Goals as goal

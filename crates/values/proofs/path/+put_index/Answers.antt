@@ -1,4 +1,4 @@
-use mathlib.Core.Path.{refl, sym}
+use mathlib.Core.Path.{sym}
 use native.Mathlib.Omega.{arith}
 use Rattle.sheet.proofs.Sheets.{with_text-none, with_text-as, and_then, byte-then}
 use Rattle.values.proofs.Indices.{index-none, index-one, index-more}

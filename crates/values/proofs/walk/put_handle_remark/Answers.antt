@@ -1,4 +1,3 @@
-use mathlib.Core.Path.{◌≡◌, refl, ◌∙◌}
 use borrow.Author.Tests.{eq-eqb, ne_eqb}
 use Rattle.text.specs.Text.{ascii}
 use Rattle.values.specs.Values.{handle_remark}

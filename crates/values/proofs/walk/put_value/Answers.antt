@@ -1,9 +1,7 @@
-use Prim.Native.Nat.{ℕ, ◌+◌, ◌-◌, ◌*◌, ◌^◌}
-use mathlib.Core.List.{List, []}
-use mathlib.Core.Path.{◌≡◌, refl, sym, ap, ◌∙◌}
-use mathlib.Core.Logic.{◌⊎◌}
+use Prim.Native.Nat.{ℕ}
+use mathlib.Core.Path.{sym, ap}
 use Rattle.ty.specs.View.{read_entry}
-use Rattle.values.specs.Values.{scalar_text, width}
+use Rattle.values.specs.Values.{scalar_text}
 use Rattle.sheet.specs.Sheet.{signed_decimal}
 use Rattle.sheet.proofs.Sheets.{with_text-none, with_text-as, and_then}
 use Rattle.values.proofs.Scalars.{width-int}

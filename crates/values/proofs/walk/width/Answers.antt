@@ -1,5 +1,4 @@
-use mathlib.Core.Path.{refl, ap, sym, ◌∙◌}
-use native.Mathlib.Omega.{arith}
+use mathlib.Core.Path.{refl}
 use Rattle.values.specs.Values.{width}
 use Rattle.values.proofs.Scalars.{width-small}
 use Rattle.values.proofs.walk.width.Goals as goal

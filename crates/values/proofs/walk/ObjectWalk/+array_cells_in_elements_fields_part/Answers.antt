@@ -1,5 +1,5 @@
 use Prim.Native.Nat.{ℕ, ◌+◌, ◌-◌, ◌*◌}
-use mathlib.Core.List.{List, [], ◌∷◌, ◌++◌}
+use mathlib.Core.List.{List}
 use mathlib.Core.Path.{◌≡◌, refl, sym, ap, ◌∙◌}
 use native.Mathlib.Omega.{arith}
 use lib.Dec.{eqb}
@@ -9,13 +9,12 @@ use borrow.Author.Tests.{eq-eqb, ne_eqb}
 use Rattle.std.specs.Prelude.{if◌then◌else◌}
 use Rattle.text.specs.Text.{ascii}
 use Rattle.ty.proofs.Ranges.{record-within, part-start, part_end}
-use Rattle.values.specs.Values.{value_line, bounds_text}
 use Rattle.values.specs.Inner.Paths.{path_text}
 use Rattle.values.specs.Inner.Walk.{elements_text, part_text}
 use Rattle.sheet.proofs.Sheets.{with_text-none, with_text-as, and_then, then-byte, done, turn}
 use Rattle.values.proofs.Scalars.{head-line}
 use Rattle.values.proofs.Cells.{type-zero, type-missing, type-array, type-record, type-scalar, part-rest, part-none, part-some, array-none, array-logic, array-elements, array-fits, first-is, used-fits, rest-is, rest-under}
-use Rattle.values.proofs.Cells.{elements-none, elements-beyond, elements-next, fields-begin, fields_end, field-unlaid, field-unaligned, field-unended, field-beyond, field-next}
+use Rattle.values.proofs.Cells.{elements-none, elements-beyond, elements-next, fields_end, field-unlaid, field-unaligned, field-unended, field-beyond, field-next}
 use Rattle.values.proofs.walk.ObjectWalk.+array_cells_in_elements_fields_part.Goals as goal
 use Rattle.values.proofs.walk.ObjectWalk.+array_cells_in_elements_fields_part.Goals.{array-then-l-eq0, array-else-l-eq0}
 

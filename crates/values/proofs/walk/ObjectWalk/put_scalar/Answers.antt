@@ -1,8 +1,8 @@
-use mathlib.Core.Path.{◌≡◌, refl, sym, ap, ◌∙◌}
+use mathlib.Core.Path.{ap, ◌∙◌}
 use Prim.Native.Nat.{ℕ}
-use mathlib.Core.List.{List, [], ◌∷◌, ◌++◌}
+use mathlib.Core.List.{List}
 use Rattle.ty.specs.Inner.Rows.{bare}
-use Rattle.values.specs.Values.{cell_text, scalar_text, number_at, width}
+use Rattle.values.specs.Values.{cell_text, scalar_text, number_at}
 use Rattle.values.specs.Inner.Paths.{path_text}
 use Rattle.values.specs.Names.{word_at}
 use Rattle.values.specs.Inner.Walk.{head_text}
