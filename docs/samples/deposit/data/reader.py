@@ -301,10 +301,10 @@ CLASSES = ["Int", "Physical", "Enum", "Real", "Array", "", "Access", "File", "Pr
 def signed(x, size):
     return x - 256 ** size if x >= 256 ** size // 2 else x
 
-def remark(name, k, many):
-    """Section 19: a blank and word k after the colon of a type's name, where it has so many words or many is None."""
+def remark(name, k):
+    """Section 19: a blank and word k after the colon of a type's name, nothing where it has fewer."""
     words = [w for w in name.partition(":")[2].split(" ") if w]
-    return " " + words[k] if k < len(words) and many in (None, len(words)) else ""
+    return " " + words[k] if k < len(words) else ""
 
 def indices(dims, k):
     """The indices of element k, of which the last varies fastest."""
@@ -314,9 +314,9 @@ def indices(dims, k):
         found.insert(0, str(left - i if down else left + i))
     return " ".join(found)
 
-def scalar_text(c, name, x, size, literals):
+def scalar_text(c, name, x, size):
     led = " null" if x == 0 else f" slot {x >> 32 & 0xffffff}"
-    return [signed(x, size), f"{signed(x, 8)}{remark(name, 0, None)}", f"{x}{remark(name, x, literals)}", f"{x:016x}", "", "", f"{x}{led}", x, f"{x}{led}"][c]
+    return [signed(x, size), f"{signed(x, 8)}{remark(name, 0)}", f"{x}{remark(name, x)}", f"{x:016x}", "", "", f"{x}{led}", x, f"{x}{led}"][c]
 
 def array_lines(table, t, data, desc, path, at, depth):
     _, a, b, d, _ = type_at(table, t, depth)
@@ -344,7 +344,7 @@ def value_lines(table, t, data, desc, path, at, depth=0, element=False):
     else:
         size = layout(table, t, desc, depth, element)[0]
         x = int.from_bytes(data[at:at + size], "little")
-        yield f"{path},{CLASSES[c]},{scalar_text(c, name, x, size, a)}"
+        yield f"{path},{CLASSES[c]},{scalar_text(c, name, x, size)}"
 
 def values(table, t, data):
     """The text of an object's visible bytes (section 19). NoLayout where there is none."""
