@@ -4,7 +4,7 @@ use mathlib.Core.List.{List, []}
 use mathlib.Core.Bool.{true, false}
 use mathlib.Core.Path.{◌≡◌, refl}
 use lib.ListN.{length}
-use Rattle.word.specs.Result.{Result, ok, refused}
+use Rattle.word.specs.Result.{ok, refused}
 use Rattle.name_index.specs.declared.Place.{Place}
 use Rattle.name_index.specs.Index.{index_of}
 use Rattle.name_index.specs.Calls.{one_line_each, lists_reach, indexing, index_call}

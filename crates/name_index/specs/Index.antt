@@ -1,6 +1,5 @@
 -- Where the names of a type table begin, by one going through their bytes. Names are lines: the types' first, then the fields', then the constants'. The words of a name come after its first colon, with blanks between them.
-use Rattle.std.specs.Prelude.{ℕ, zero, suc, ◌+◌, ◌-◌, List, [], ◌∷◌, length, set, get_or, leb, ltb, eqb, true, Bool, if◌then◌else◌}
-use Rattle.word.specs.Result.{Result, ok, refused}
+use Rattle.std.specs.Prelude.{ℕ, ◌+◌, ◌-◌, List, [], ◌∷◌, length, set, leb, ltb, eqb, if◌then◌else◌}
 use Rattle.name_index.specs.declared.Place.{Place}
 use Rattle.name_index.specs.declared.Part.{Part}
 use Rattle.name_index.specs.declared.Part.TheVariants.{Name, Gap, Word}

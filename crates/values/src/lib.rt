@@ -1,4 +1,4 @@
-// The values of an object as text, by its type: a line for each array and for each value.
+//! The values of an object as text, by its type: a line for each array and for each value.
 #![tactic(auto)]
 
 ghost use Rattle.std.specs.Prelude.{◌≡◌, length};
@@ -66,7 +66,10 @@ fn put_object(
     walk.cells_in(false, t, &data[..k], 65, &Path::Object, k, out, n)
 }
 
-// How long the text of an object's visible data is.
+/// How many bytes `value_text` writes of an object's visible data, by its type `t`; 2^64 - 1 stands
+/// for that and more.
+///
+/// 13 where the descriptor is cut short, the type has no layout under it, or the value is cut short.
 pub fn value_length(table: &Table, names: &Lines, t: u64, data: &[u8]) -> Result<u64, Refusal>
     ensures { answer result ≡ length_answer (object_text (lent table.now) (names_of table.now names.now) t «data».now) }
 {
@@ -77,7 +80,9 @@ pub fn value_length(table: &Table, names: &Lines, t: u64, data: &[u8]) -> Result
     Ok(put_object(table, names, t, data, k, size, &mut nothing) as u64)
 }
 
-// Writes that text from the front of a list on, and answers its length.
+/// Writes the text of an object's visible data from the front of `out` on, and answers its length.
+///
+/// 13 as `value_length`, then 7 where `out` is too short; then nothing is written.
 pub fn value_text(
     table: &Table,
     names: &Lines,

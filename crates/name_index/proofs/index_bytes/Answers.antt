@@ -1,12 +1,10 @@
-use Prim.Native.Nat.{ℕ, ◌+◌, ◌≤◌}
+use Prim.Native.Nat.{ℕ}
 use mathlib.Core.List.{List}
-use mathlib.Core.Path.{◌≡◌, refl, sym, ap, ◌∙◌}
+use mathlib.Core.Path.{refl, ap, ◌∙◌}
 use native.Mathlib.Omega.{arith}
-use lib.ListN.{get_or}
-use Rattle.name_index.specs.declared.Place.{Place}
-use Rattle.name_index.specs.Index.{index, place, with_byte, with_bytes, begun, index_of, put_at, end_line}
+use Rattle.name_index.specs.Index.{index, place, with_bytes, begun, index_of, put_at}
 use Rattle.name_index.specs.declared.Part.TheVariants.{Name}
-use Rattle.name_index.proofs.Turns.{turn, done, ends, goes_on, ended}
+use Rattle.name_index.proofs.Turns.{turn, done, goes_on, ended}
 use Rattle.name_index.proofs.index_bytes.Goals as goal
 use Rattle.name_index.proofs.index_bytes.Goals.{then-names-k-eq10, else-names-k-eq10}
 

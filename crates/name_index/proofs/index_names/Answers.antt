@@ -1,10 +1,9 @@
-use Prim.Native.Nat.{ℕ, ◌/◌}
-use mathlib.Core.List.{List}
-use mathlib.Core.Path.{◌≡◌, refl, sym, ap, ◌∙◌}
+use Prim.Native.Nat.{◌/◌}
+use mathlib.Core.Path.{sym, ap, ◌∙◌}
 use lib.ListN.{length}
-use Rattle.word.specs.Result.{Result, ok, refused}
+use Rattle.word.specs.Result.{Result, ok}
 use Rattle.name_index.specs.Index.{Index}
-use Rattle.name_index.specs.Calls.{index_call, word_total, list_after}
+use Rattle.name_index.specs.Calls.{word_total, list_after}
 use Rattle.name_index.proofs.Whole.{not-lines, too-short, filled}
 use Rattle.name_index.proofs.index_names.Goals as goal
 

@@ -1,4 +1,4 @@
-use mathlib.Core.Path.{refl, ap}
+use mathlib.Core.Path.{refl}
 use borrow.Author.Tests.{eq-eqb, ne_eqb}
 use Rattle.name_index.specs.Index.{in_line}
 use Rattle.name_index.proofs.take_byte.Goals as goal
