@@ -38,6 +38,8 @@ THEOREMS = "Theorems"
 THEOREM_CRATES = ("theorems", "laws", "histories")
 # crates of functions that make public calls, and whose contracts are theorems on these
 CALLING_CRATES = ("theorem_calls",)
+# files whose public functions are calls of a library, by names that do not begin with yexwalu_
+LIBRARY_FILES = ("crates/values/src/lib.rt", "crates/name_index/src/lib.rt")
 IMPORTS = ("use ", "pub use ", "pub mod ", "mod ")
 TOKEN = re.compile(r"[^\s(){}\[\],;]+")
 
@@ -223,7 +225,8 @@ class Book:
 
     def contracts(self):
         """What the clauses of the public calls name; the exports have the clauses of the calls."""
-        return set().union(*(self.clauses(path, "yexwalu_") for path in self.sources if not path.startswith("crates/yexwalu_c/")))
+        calls = [self.clauses(path, "yexwalu_") for path in self.sources if not path.startswith("crates/yexwalu_c/")]
+        return set().union(*calls, *map(self.clauses, LIBRARY_FILES))
 
     def statements(self, cell, wrong):
         """The statements that a row names, and what its contracts name besides."""

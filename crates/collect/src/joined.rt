@@ -7,7 +7,7 @@ ghost use Rattle.mark.specs.Inner.Safepoints.{live_values, handles_in, pinned_in
 ghost use Rattle.collection.specs.Joined.{joined_by};
 ghost use Rattle.collect.specs.Inner.Safepoint.{at_safepoint, CanLook, RootRow};
 ghost use Rattle.mark.specs.Inner.Scratch.{CanMark};
-ghost use Rattle.ty.specs.Inner.Lent.{lent as table_lent};
+ghost use Rattle.ty.specs.Lent.{lent as table_lent};
 ghost use Rattle.code.specs.Lent.{function, right, need};
 ghost use Rattle.code.specs.Inner.Plans.{lent as lent_code};
 

@@ -9,7 +9,7 @@ ghost use Rattle.heap.specs.Inner.Loans.{lies, state, Replies};
 ghost use Rattle.collect.specs.Collect.{collecting};
 ghost use Rattle.collect.specs.Inner.Finished.{finished};
 ghost use Rattle.mark.specs.Inner.Scratch.{CanMark};
-ghost use Rattle.ty.specs.Inner.Lent.{lent as table_lent};
+ghost use Rattle.ty.specs.Lent.{lent as table_lent};
 
 use heap::view_mut::ViewMut;
 use heap_calls::pinned::{Pinned, Pins};

@@ -1,7 +1,7 @@
 // What the roots of a heap reach, in the order first met.
 ghost use Rattle.mark.specs.Inner.Scratch.{Clear};
 ghost use Rattle.compare_heaps.specs.Inner.Marked.{Meets, side_model};
-ghost use Rattle.ty.specs.Inner.Lent.{lent};
+ghost use Rattle.ty.specs.Lent.{lent};
 
 use mark::Objects;
 use ty::Table;

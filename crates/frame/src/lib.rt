@@ -6,7 +6,7 @@ ghost use Rattle.trace.specs.Inner.Emit.{raw_of, into, slots_resolve, emit_all, 
 ghost use Rattle.frame.specs.Frame.{entry, entries_of, first_word, entry_roots, entries_roots, frame_roots, frame_handles, frame_addresses};
 ghost use Rattle.frame.specs.Listing.{roots_listing};
 ghost use Rattle.frame.specs.Inner.Frames.{Frames};
-ghost use Rattle.ty.specs.Inner.Lent.{lent};
+ghost use Rattle.ty.specs.Lent.{lent};
 
 use handle::Slots;
 use refusal::{Refusal, Reply};

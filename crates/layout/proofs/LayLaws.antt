@@ -21,7 +21,7 @@ use Rattle.layout.specs.Inner.Lent.{scalar_part}
 use Rattle.layout.specs.declared.Layout.{Layout}
 use Rattle.word.proofs.ListLaws.{rest}
 use Rattle.layout.proofs.Within.{used-within, dims-within}
-use Rattle.ty.specs.Inner.Lent.{lent}
+use Rattle.ty.specs.Lent.{lent}
 use Rattle.ty.specs.Inner.Rows.{bare}
 use native.Mathlib.Omega.{arith}
 use lib.ListN.{length, take, drop, get_or, length-drop}

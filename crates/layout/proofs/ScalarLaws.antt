@@ -20,7 +20,7 @@ use Rattle.layout.specs.Inner.Lent.{scalar_part, record_in, ScalarFields, Scalar
 use Rattle.layout.specs.declared.Layout.{Layout}
 use Rattle.layout.proofs.LayLaws.{below-scalar, in-record, record-first, record-last, record-more}
 use Rattle.layout.proofs.OffsetLaws.{Writing, writing_start, writing-same, writing-place, writing-stop, writing-next, off-last, off-more, fields-are, length_fields}
-use Rattle.ty.specs.Inner.Lent.{lent}
+use Rattle.ty.specs.Lent.{lent}
 use native.Mathlib.Nat.{div-add-mod', le-max_right, max-le}
 use native.Mathlib.Omega.{arith}
 use lib.ListN.{length, get_or, set}

@@ -11,7 +11,7 @@ ghost use Rattle.layout.specs.Layout.{dim_len, dims_of, used_by, array_laid, pla
 ghost use Rattle.layout.specs.Offsets.{offsets_of, listed_in, layout_call, written_by};
 ghost use Rattle.layout.specs.Inner.Told.{told};
 ghost use Rattle.layout.specs.Inner.Lent.{scalar_part, type_laid, part_laid, array_in, record_in, offsets_in, ScalarFields, ScalarRecord, ScalarsLaid, FewFields, FieldsListed};
-ghost use Rattle.ty.specs.Inner.Lent.{lent};
+ghost use Rattle.ty.specs.Lent.{lent};
 ghost use Rattle.ty.specs.Inner.Rows.{bare};
 
 use refusal::Refusal;

@@ -12,7 +12,7 @@ ghost use Rattle.mark.specs.Inner.Queues.{state, IsReady, Becomes};
 ghost use Rattle.mark.specs.Inner.Told.{told, marks_in, Ready};
 ghost use Rattle.mark.specs.Inner.Joining.{in_use, taking, value_of, joined_from, joined_marks};
 ghost use Rattle.mark.specs.Inner.Safepoints.{live_values, handles_in, pinned_in};
-ghost use Rattle.ty.specs.Inner.Lent.{lent};
+ghost use Rattle.ty.specs.Lent.{lent};
 
 use crate::objects::{Objects, seals};
 use crate::queue::Queue;

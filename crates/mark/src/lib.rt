@@ -4,7 +4,7 @@
 
 ghost use Rattle.std.specs.Prelude.{◌≡◌, ◌-◌, ◌<◌, length};
 ghost use Rattle.heap.specs.Inner.Seen.{state as heap_state};
-ghost use Rattle.ty.specs.Inner.Lent.{lent};
+ghost use Rattle.ty.specs.Lent.{lent};
 ghost use Rattle.reach.specs.Marking.{drained};
 ghost use Rattle.mark.specs.Inner.Graph.{shown_in};
 ghost use Rattle.mark.specs.Inner.Objects.{leads, lives, graph_of};

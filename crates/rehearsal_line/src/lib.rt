@@ -2,7 +2,7 @@
 #![tactic(auto)]
 
 ghost use Rattle.std.specs.Prelude.{◌≡◌, ◌/◌, length};
-ghost use Rattle.ty.specs.Inner.Lent.{lent as tabled};
+ghost use Rattle.ty.specs.Lent.{lent as tabled};
 ghost use Rattle.heap.specs.Lent.{lent};
 ghost use Rattle.script.specs.Inner.Found.{DataThere};
 ghost use Rattle.rehearsal_lines.specs.Inner.Found.{alloc_at, DataIn, step_in};

@@ -9,7 +9,7 @@ ghost use Rattle.rehearsal.specs.Runs.{figures_line};
 ghost use Rattle.rehearsal_steps.specs.Inner.Going.{ended, InOrder, Cleared, Goes};
 ghost use Rattle.rehearsal_runs.specs.Runs.{lines_of, run_of};
 ghost use Rattle.rehearsal_runs.specs.Inner.Runs.{Begun, LentRoom, CanPut, CanRehearse, figures_in, Rehearses};
-ghost use Rattle.ty.specs.Inner.Lent.{lent as tabled};
+ghost use Rattle.ty.specs.Lent.{lent as tabled};
 
 use heap::Heap;
 use refusal::Refusal;

@@ -3,7 +3,7 @@
 
 ghost use Rattle.std.specs.Prelude.{◌≡◌, ◌+◌, ◌/◌, ◌^◌, ◌<◌, length};
 ghost use Rattle.text.specs.Inner.Answer.{hex_at};
-ghost use Rattle.ty.specs.Inner.Lent.{lent as tabled};
+ghost use Rattle.ty.specs.Lent.{lent as tabled};
 ghost use Rattle.heap.specs.Lent.{lent};
 ghost use Rattle.script.specs.Inner.Found.{DataThere};
 ghost use Rattle.rehearsal_steps.specs.Inner.Going.{InOrder, Short, Cleared, Goes};

@@ -12,7 +12,7 @@ ghost use Rattle.saves.specs.Right.{RightSame, RightOrder};
 ghost use Rattle.same_door.specs.Inner.Numbers.{Compares, found_by};
 ghost use Rattle.same_door.specs.Inner.Both.{both_tests};
 ghost use Rattle.same_door.specs.Inner.Given.{memory_of, words_in, given_save};
-ghost use Rattle.ty.specs.Inner.Lent.{lent as table_in};
+ghost use Rattle.ty.specs.Lent.{lent as table_in};
 ghost use Rattle.compare_heaps.specs.Inner.Compared.{CanMark};
 
 use compare_heaps::Rooted;

@@ -12,8 +12,8 @@ use Rattle.text.specs.Put.{put_text}
 use Rattle.text.proofs.Putting.{put-nothing}
 use Rattle.std.proofs.lemmas.List.{drop_more, drop_all}
 use Rattle.text.specs.Text.{hex, hex_digit}
-use Rattle.sheet.specs.Sheet.{hex_digits}
-use Rattle.sheet.specs.Sheet.{Sheet, sheet, with_byte, with_text}
+use Rattle.sheet.specs.Numbers.{hex_digits}
+use Rattle.sheet.specs.Inner.Sheet.{Sheet, sheet, with_byte, with_text}
 
 pub with_text-append : (s : Sheet) (a b : List ℕ) → with_text s (a ++ b) ≡ with_text (with_text s a) b
 unfolding with_text

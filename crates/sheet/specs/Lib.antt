@@ -1,2 +1,3 @@
 -- Text that is written into a list as far as there is room.
-pub mod Sheet
+pub mod Numbers
+pub mod Inner

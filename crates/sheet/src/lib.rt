@@ -4,7 +4,8 @@
 
 ghost use Rattle.std.specs.Prelude.{◌≡◌, ◌+◌, ◌-◌, ◌^◌, ◌<◌, ◌≤◌, [], ◌∷◌};
 ghost use Rattle.text.specs.Text.{decimal, hex, hex_digit};
-ghost use Rattle.sheet.specs.Sheet.{sheet, with_byte, with_text, signed_decimal, hex_digits};
+ghost use Rattle.sheet.specs.Numbers.{signed_decimal, hex_digits};
+ghost use Rattle.sheet.specs.Inner.Sheet.{sheet, with_byte, with_text};
 
 /// Puts one byte at a place, if the list reaches so far. Answers the next place.
 pub fn push(out: &mut [u8], at: usize, b: u8) -> usize

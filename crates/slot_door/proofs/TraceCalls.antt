@@ -25,7 +25,7 @@ use Rattle.slot_door.specs.SlotHandles.{slot_tests}
 use Rattle.slot_door.specs.Traceable.{traced, fits_table, first_failing, misfit, fit_number, misfit_number, fitting, trace_call}
 use Rattle.slot_door.proofs.SlotCalls.{fit-of}
 use Rattle.door.specs.Inner.Entered.{Entered}
-use Rattle.ty.specs.Inner.Lent.{lent as table_in}
+use Rattle.ty.specs.Lent.{lent as table_in}
 use Rattle.ty.proofs.Lookup.{length_types}
 use mathlib.Core.Path.{◌≡◌, refl, sym, ap, ◌∙◌}
 use mathlib.Core.Bool.{Bool, true, false}

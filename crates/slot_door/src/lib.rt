@@ -14,7 +14,7 @@ ghost use Rattle.slot_door.specs.Traceable.{fits_table, misfit, fit_number, misf
 ghost use Rattle.slot_door.specs.Inner.Misfit.{misfit_in};
 ghost use Rattle.slot_door.specs.Inner.Objects.{shown_of};
 ghost use Rattle.door.specs.Inner.Entered.{Entered, entry_of};
-ghost use Rattle.ty.specs.Inner.Lent.{lent as table_in};
+ghost use Rattle.ty.specs.Lent.{lent as table_in};
 
 use handle::Slots;
 use heap::Heap;

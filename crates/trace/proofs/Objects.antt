@@ -11,7 +11,7 @@ use Rattle.trace.specs.Places.{places_at, object_places, handles_places, kind_pl
 use Rattle.trace.specs.Inner.Emit.{Raw, Aim, handed, handed_all, handing_at, told, InUse}
 use Rattle.trace.proofs.Emits.{emit-none, emit-nil}
 use Rattle.ty.specs.DescSize.{desc_size}
-use Rattle.ty.specs.Inner.Lent.{lent}
+use Rattle.ty.specs.Lent.{lent}
 use mathlib.Core.Path.{◌≡◌, refl, ap, ◌∙◌}
 use mathlib.Core.Bool.{Bool, true, false}
 use mathlib.Core.List.{List}

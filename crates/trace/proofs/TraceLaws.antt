@@ -14,7 +14,7 @@ use Rattle.ty.specs.Words.{word_of, on_word, round_up, Word}
 use Rattle.layout.specs.Layout.{Lay, Dims, on_ok, dims_of, under, used_by, end_of, array_of, record_of, layout_at, layout_of}
 use Rattle.ty.specs.Walks.{has_handles, handles_by, handles_at}
 use Rattle.ty.specs.View.{read_ty, read_entry, entry_at, fields_from, part_at, read_part, types_of, consts_of}
-use Rattle.ty.specs.Inner.Lent.{lent}
+use Rattle.ty.specs.Lent.{lent}
 use Rattle.layout.specs.Inner.Lent.{scalar_part}
 use Rattle.layout.specs.Offsets.{offsets_from, offsets_of, fields_of}
 use Rattle.refusal.specs.declared.Refusal.{Refusal}

@@ -19,7 +19,7 @@ use Rattle.trace.specs.Places.{Places, Below, many, turns, if_laid, if_bytes, pa
 use Rattle.trace.specs.Inner.Walk.{Counts}
 use Rattle.trace.specs.Inner.Emit.{Raw, Aim, handing_at}
 use Rattle.trace.proofs.Emits.{emit-nil, many-end}
-use Rattle.ty.specs.Inner.Lent.{lent}
+use Rattle.ty.specs.Lent.{lent}
 use native.Mathlib.Omega.{arith}
 use lib.ListN.{length, drop}
 use lib.Dec.{eqb}

@@ -1,7 +1,7 @@
 // The tracer of one object or value: its places, as the layout of its type says, go to a goal.
 ghost use Rattle.std.specs.Prelude.{ℕ, Some, true, ◌≡◌, ◌≤◌, ◌+◌, ◌*◌, ◌/◌, [], ◌∷◌, length, drop, leb};
 ghost use Rattle.std.proofs.Math.Option.{some};
-ghost use Rattle.ty.specs.Inner.Lent.{lent};
+ghost use Rattle.ty.specs.Lent.{lent};
 ghost use Rattle.ty.specs.Walks.{has_handles};
 ghost use Rattle.layout.specs.Inner.Lent.{part_laid};
 ghost use Rattle.trace.specs.Places.{only_if, turns, object_places, handles_places, kind_places};

@@ -2,7 +2,7 @@
 #![tactic(auto)]
 
 ghost use Rattle.std.specs.Prelude.{◌≡◌, ◌≤◌, map, length, drop};
-ghost use Rattle.ty.specs.Inner.Lent.{lent};
+ghost use Rattle.ty.specs.Lent.{lent};
 ghost use Rattle.trace.specs.Places.{handle_at, handles_places, shown_places, value_handles, object_handles, handles_of};
 ghost use Rattle.trace.specs.Inner.Emit.{emit_all, raw_of, into, emitting, beside_aim, handing_at, told};
 ghost use Rattle.beside.specs.Inner.Ranks.{slots_resolve};

@@ -1,7 +1,7 @@
 // Calls that list handles: first they are only counted, so that a refusal leaves the lent list as it was.
 ghost use Rattle.std.specs.Prelude.{◌≡◌, ℕ, List, length};
 ghost use Rattle.std.proofs.Math.Option.{Option};
-ghost use Rattle.ty.specs.Inner.Lent.{lent};
+ghost use Rattle.ty.specs.Lent.{lent};
 ghost use Rattle.trace.specs.Places.{value_handles, object_handles, handles_of};
 ghost use Rattle.trace.specs.Inner.Emit.{raw_of, into, slots_resolve, emitting, told};
 ghost use Rattle.traced.specs.Listing.{listing};

@@ -1,3 +1,2 @@
 -- What only the contracts of inner functions cite.
-pub mod Lent
 pub mod Rows

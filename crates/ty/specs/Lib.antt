@@ -3,6 +3,7 @@ pub mod Types
 pub mod Words
 pub mod Scalars
 pub mod View
+pub mod Lent
 pub mod Walks
 pub mod Check
 pub mod DescSize

@@ -17,7 +17,7 @@ use Rattle.ty.specs.Types.{Ty, Ty.missing, Field, Field.field, Const, Const.plai
 use Rattle.ty.specs.Words.{word_of, round_up}
 use Rattle.ty.specs.Scalars.{logic_leaf}
 use Rattle.ty.specs.View.{entry_of, entry_at, read_ty, read_entry, fields_from, part_at, read_part}
-use Rattle.ty.specs.Inner.Lent.{lent}
+use Rattle.ty.specs.Lent.{lent}
 use Rattle.ty.specs.Inner.Rows.{bare}
 use Rattle.ty.specs.declared.Table.{Table as Lent}
 use Rattle.ty.specs.declared.Entry.{Entry}

@@ -25,10 +25,10 @@ use Rattle.text.specs.Text.{hex_digit}
 use Rattle.text.specs.Reading.{hex_digit_of}
 use Rattle.text.proofs.Laws.{hex-digit-forth}
 use Rattle.values.specs.Values.{code_letter, bit_at, codes_text}
-use Rattle.sheet.specs.Sheet.{hex_digits}
+use Rattle.sheet.specs.Numbers.{hex_digits}
 use Rattle.values.specs.Agreement.{Agrees, bounds-agree, scalar-agrees, logic-agrees, AllAgree, no-cells, more-cells}
 use Rattle.values.specs.Values.{Cell, bounds, scalar, logic, number_at, code_at, remark, handle_remark, cell_text, cells_text, scalar_text, class_word, value_line, descriptor_line}
-use Rattle.sheet.specs.Sheet.{signed_decimal}
+use Rattle.sheet.specs.Numbers.{signed_decimal}
 
 -- a number and what follows it, which does not begin with a digit
 pub decimal-apart : (a b : ℕ) (s t : List ℕ) → Stops s → Stops t → decimal a ++ s ≡ decimal b ++ t → (a ≡ b) × (s ≡ t)

@@ -14,12 +14,12 @@ use Rattle.layout.specs.Layout.{layout_of}
 use Rattle.layout.specs.declared.Layout.{Layout}
 use lib.Seq.{length-take-le}
 use Rattle.word.specs.Result.{ok, refused}
-use Rattle.ty.specs.Inner.Lent.{lent}
+use Rattle.ty.specs.Lent.{lent}
 use Rattle.ty.specs.declared.Table.{Table as Lent}
 use Rattle.values.specs.Values.{Parts, parts_of, text_of, object_text}
 use Rattle.values.specs.Calls.{length_answer, text_answer, text_after}
 use Rattle.values.specs.Names.{names_of}
-use Rattle.sheet.specs.Sheet.{sheet, with_text}
+use Rattle.sheet.specs.Inner.Sheet.{sheet, with_text}
 use Rattle.values.specs.Inner.Walk.{FoundParts, whole_text}
 use Rattle.values.specs.declared.names.Lines.{Lines}
 use Rattle.sheet.proofs.Sheets.{with_text-at, with_text-page}

@@ -5,7 +5,7 @@ use mathlib.Core.List.{flat_map}
 use Rattle.std.proofs.Math.Option.{Option, none, some}
 use Rattle.word.specs.Le.{le}
 use Rattle.text.specs.Text.{ascii, decimal, hex, line}
-use Rattle.sheet.specs.Sheet.{signed_decimal, hex_digits}
+use Rattle.sheet.specs.Numbers.{signed_decimal, hex_digits}
 use Rattle.ty.specs.Types.{Ty, Ty.missing, Ty.int, Ty.physical, Ty.enum, Ty.real, Ty.array, Ty.fields, Ty.access, Ty.file, Ty.protected, Field, Field.field, Const, Const.plain, Const.other, Table, type_at, const_at, none as no_const}
 use Rattle.ty.specs.Words.{word_of, on_word, rank, round_up}
 use Rattle.ty.specs.Scalars.{scalar_size, elem_size, logic_leaf}

@@ -2,10 +2,10 @@
 #![tactic(auto)]
 
 ghost use Rattle.std.specs.Prelude.{◌≡◌, length};
-ghost use Rattle.ty.specs.Inner.Lent.{lent};
+ghost use Rattle.ty.specs.Lent.{lent};
 ghost use Prim.Native.Nat.{◌+◌, ◌≤◌};
 ghost use Rattle.values.specs.Values.{object_text, parts_of};
-ghost use Rattle.sheet.specs.Sheet.{sheet, with_text};
+ghost use Rattle.sheet.specs.Inner.Sheet.{sheet, with_text};
 ghost use Rattle.values.specs.Inner.Walk.{FoundParts, whole_text};
 ghost use Rattle.values.specs.Calls.{length_answer, text_answer, text_after};
 ghost use Rattle.values.specs.Names.{names_of};

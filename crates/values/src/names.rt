@@ -3,7 +3,7 @@ ghost use Rattle.std.specs.Prelude.{◌≡◌, ◌≤◌, ◌+◌, ◌-◌, ◌^
 ghost use Rattle.values.specs.Values.{remark, field_name};
 ghost use Rattle.values.specs.Names.{text_at, name_at, word_at};
 ghost use Rattle.values.specs.Inner.Walk.{Ends};
-ghost use Rattle.sheet.specs.Sheet.{sheet, with_text};
+ghost use Rattle.sheet.specs.Inner.Sheet.{sheet, with_text};
 
 /// The names of a table as text, and at which bytes they begin: a name ends before the first byte
 /// below 32, a word before the first below 33. A place that is missing or past the text gives an

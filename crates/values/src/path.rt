@@ -1,7 +1,7 @@
 // Where a value stands in its object: as it is written after the object's own name.
 ghost use Rattle.std.specs.Prelude.{◌≡◌, ◌+◌, ◌-◌, ◌^◌, ◌<◌, ◌≤◌, ◌++◌, [], ◌∷◌, drop};
 ghost use Rattle.values.specs.Values.{number_at, index_from, positions, index_text, direction, bound_text, bounds_text, field_path, element_path};
-ghost use Rattle.sheet.specs.Sheet.{sheet, with_text};
+ghost use Rattle.sheet.specs.Inner.Sheet.{sheet, with_text};
 ghost use Rattle.values.specs.Inner.Paths.{path_text};
 
 use crate::names;

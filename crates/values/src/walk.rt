@@ -3,7 +3,7 @@ ghost use Rattle.std.specs.Prelude.{◌≡◌, ◌+◌, ◌-◌, ◌*◌, ◌/�
 ghost use mathlib.Core.Logic.{◌⊎◌};
 ghost use Rattle.ty.specs.Inner.Rows.{bare};
 ghost use Rattle.values.specs.Values.{class_word, scalar_text, width, handle_remark, code_letter, code_at, bit_at, cell_text, scalar, logic};
-ghost use Rattle.sheet.specs.Sheet.{sheet, with_text};
+ghost use Rattle.sheet.specs.Inner.Sheet.{sheet, with_text};
 ghost use Rattle.values.specs.Inner.Paths.{path_text};
 ghost use Rattle.values.specs.Names.{names_of, word_at};
 ghost use Rattle.values.specs.Inner.Walk.{NextPlace, head_text, type_text, part_text, array_text, elements_text, fields_text};

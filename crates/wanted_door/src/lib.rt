@@ -12,7 +12,7 @@ ghost use Rattle.wanted.specs.Search.{noted};
 ghost use Rattle.wanted_door.specs.Inner.Listing.{CanName, named_in};
 ghost use Rattle.wanted_door.specs.RootsFor.{root_handles, wanted_tests, roots_call, roots_out, RightRoots};
 ghost use Rattle.door.specs.Inner.Entered.{Entered, entry_of};
-ghost use Rattle.ty.specs.Inner.Lent.{lent as table_in};
+ghost use Rattle.ty.specs.Lent.{lent as table_in};
 
 use heap::Heap;
 use heap::view::View;

@@ -1,6 +1,6 @@
 -- `compare_heaps::compare_met` meets its contract.
 use Rattle.compare_heaps.proofs.ObjectsInOrder.{GoesMet}
-use Rattle.ty.specs.Inner.Lent.{lent}
+use Rattle.ty.specs.Lent.{lent}
 use Rattle.compare_heaps.proofs.compare_met.Given as goal
 
 abbrev pub invariant-loop-k : goal.invariant-loop-k

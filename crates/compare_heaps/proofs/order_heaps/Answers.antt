@@ -3,7 +3,7 @@ use mathlib.Core.Path.{◌∙◌}
 use native.Mathlib.Omega.{arith}
 use Rattle.models.proofs.Heaps.{short-constants}
 use Rattle.compare_heaps.proofs.OrderFound.{both-first, both-second, both-can, both-found, mark-room, mark-clear}
-use Rattle.ty.specs.Inner.Lent.{lent}
+use Rattle.ty.specs.Lent.{lent}
 use Rattle.compare_heaps.proofs.order_heaps.Goals as goal
 
 pub slice_bounds-first_met-end : goal.slice_bounds-first_met-end

@@ -2,7 +2,7 @@
 use Prim.Native.Nat.{◌*◌}
 use mathlib.Core.Path.{◌≡◌}
 use lib.ListN.{drop}
-use Rattle.ty.specs.Inner.Lent.{lent}
+use Rattle.ty.specs.Lent.{lent}
 use Rattle.trace.specs.Inner.Emit.{raw_of, into, slots_resolve, emitting}
 use Rattle.frame.specs.Frame.{entries_of, entries_roots}
 use Rattle.frame.proofs.trace_entries.Given as goal

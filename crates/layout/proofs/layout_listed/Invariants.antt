@@ -1,7 +1,7 @@
 -- `layout::layout_listed` meets its contract.
 use Prim.Native.Nat.{◌+◌, ◌-◌}
 use mathlib.Core.Path.{◌≡◌}
-use Rattle.ty.specs.Inner.Lent.{lent}
+use Rattle.ty.specs.Lent.{lent}
 use Rattle.ty.specs.View.{fields_from}
 use Rattle.layout.specs.Layout.{record_of, layout_at}
 use Rattle.layout.proofs.OffsetLaws.{Writing}

@@ -10,7 +10,7 @@ use Rattle.layout.specs.Layout.{Lay, under, array_of, record_of, layout_at}
 use Rattle.layout.specs.Offsets.{offsets_from, listed_in, written_by}
 use Rattle.layout.specs.Inner.Told.{told}
 use Rattle.layout.specs.declared.Layout.{Layout}
-use Rattle.ty.specs.Inner.Lent.{lent}
+use Rattle.ty.specs.Lent.{lent}
 
 module _ (T : Table) where
   -- the bytes of a field that is a scalar without a constant

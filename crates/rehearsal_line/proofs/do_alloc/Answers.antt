@@ -7,7 +7,7 @@ use Rattle.heap.specs.Lent.{lent}
 use Rattle.rehearsal_line.proofs.StatesBetweenLines.{led-alloc, led-more}
 use Rattle.rehearsal_line.proofs.LineParts.{same-turns, alloc-ends, alloc_goes}
 use Rattle.rehearsal_steps.proofs.Placed.{still-open}
-use Rattle.ty.specs.Inner.Lent.{lent as tabled}
+use Rattle.ty.specs.Lent.{lent as tabled}
 use Rattle.rehearsal_line.proofs.do_alloc.Goals as goal
 
 pub collect_due-r-requires : goal.collect_due-r-requires

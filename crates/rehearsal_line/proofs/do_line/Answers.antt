@@ -5,7 +5,7 @@ use Rattle.rehearsal_lines.specs.Inner.Found.{step_in}
 use Rattle.rehearsal_store.proofs.Stored.{names-there}
 use Rattle.rehearsal_line.proofs.StatesBetweenLines.{led-whole}
 use Rattle.rehearsal_line.proofs.LineParts.{store_line, drop-line, drop-header, as_line, alloc-data}
-use Rattle.ty.specs.Inner.Lent.{lent as tabled}
+use Rattle.ty.specs.Lent.{lent as tabled}
 use mathlib.Core.Path.{refl, ap}
 use Rattle.rehearsal_line.proofs.do_line.Goals as goal
 

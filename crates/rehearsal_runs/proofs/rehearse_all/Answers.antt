@@ -3,7 +3,7 @@ use native.Mathlib.Omega.{arith}
 use mathlib.Core.Path.{refl, sym, ap, ◌∙◌}
 use Prim.Native.Nat.{ℕ, ◌/◌}
 use lib.ListN.{length, get_or}
-use Rattle.ty.specs.Inner.Lent.{lent as tabled}
+use Rattle.ty.specs.Lent.{lent as tabled}
 use Rattle.rehearsal_runs.proofs.Running.{same, on, still-clear, goes-sizes}
 use Rattle.rehearsal_runs.proofs.Repeating.{room-same, repeat-first, repeat-long, repeat-put, repeat-next, repeat-end}
 use Rattle.rehearsal_runs.proofs.rehearse_all.Goals as goal

@@ -1,7 +1,7 @@
 -- `rehearsal_runs::rehearse_all` meets its contract. The invariant: what is left to print and to leave.
 use Prim.Native.Nat.{◌-◌}
 use mathlib.Core.Path.{◌≡◌}
-use Rattle.ty.specs.Inner.Lent.{lent as tabled}
+use Rattle.ty.specs.Lent.{lent as tabled}
 use Rattle.heap.specs.Lent.{lent}
 use Rattle.rehearsal_runs.proofs.Running.{Sizes}
 use Rattle.rehearsal_runs.proofs.Repeating.{Repeating}

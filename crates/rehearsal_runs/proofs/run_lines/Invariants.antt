@@ -1,7 +1,7 @@
 -- `rehearsal_runs::run_lines` meets its contract. The invariant: the lines done have led there, and the rest is left.
 use Prim.Native.Nat.{◌-◌, ◌/◌}
 use lib.ListN.{length}
-use Rattle.ty.specs.Inner.Lent.{lent as tabled}
+use Rattle.ty.specs.Lent.{lent as tabled}
 use Rattle.heap.specs.Lent.{lent}
 use Rattle.rehearsal_runs.proofs.Running.{Sizes, Running}
 use Rattle.rehearsal_runs.proofs.run_lines.Given as goal

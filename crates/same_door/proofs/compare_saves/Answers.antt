@@ -9,7 +9,7 @@ use Rattle.compare_heaps.specs.Inner.Compared.{CanMark}
 use Rattle.same_door.specs.Inner.Given.{memory_of, words_in, given_save}
 use Rattle.same_door.proofs.Telling.{can-first, can-second, compares-refused, compares-found}
 use Rattle.same_door.proofs.compare_saves.Goals.{In_ok-views}
-use Rattle.ty.specs.Inner.Lent.{lent}
+use Rattle.ty.specs.Lent.{lent}
 use Rattle.same_door.specs.Inner.Numbers.{found_by}
 use mathlib.Core.Path.{subst}
 use Rattle.same_door.proofs.compare_saves.Goals as goal

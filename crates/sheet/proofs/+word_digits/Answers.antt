@@ -3,7 +3,7 @@ use mathlib.Core.List.{[], ◌∷◌, ◌++◌}
 use mathlib.Core.Path.{◌≡◌, refl, sym}
 use native.Mathlib.Omega.{arith}
 use Rattle.text.specs.Text.{hex_digit}
-use Rattle.sheet.specs.Sheet.{hex_digits}
+use Rattle.sheet.specs.Numbers.{hex_digits}
 use Rattle.sheet.proofs.Sheets.{with_text-none, then-byte, with_byte-as}
 use Rattle.sheet.proofs.+word_digits.Goals as goal
 

@@ -2,7 +2,7 @@ use Prim.Native.Nat.{ℕ, ◌+◌, ◌-◌, ◌^◌, min}
 use mathlib.Core.Path.{sym, ap, ◌∙◌}
 use native.Mathlib.Omega.{arith}
 use Rattle.text.specs.Text.{decimal}
-use Rattle.sheet.specs.Sheet.{sheet}
+use Rattle.sheet.specs.Inner.Sheet.{sheet}
 use Rattle.sheet.proofs.Sheets.{with_text-past}
 use Rattle.sheet.proofs.decimal.Goals as goal
 

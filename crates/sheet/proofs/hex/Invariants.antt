@@ -1,7 +1,7 @@
 use mathlib.Core.Path.{◌≡◌}
 use lib.ListN.{drop}
 use Rattle.text.specs.Text.{hex}
-use Rattle.sheet.specs.Sheet.{sheet, with_text}
+use Rattle.sheet.specs.Inner.Sheet.{sheet, with_text}
 use Rattle.sheet.proofs.hex.Given as goal
 
 abbrev pub invariant-loop-b : goal.invariant-loop-b

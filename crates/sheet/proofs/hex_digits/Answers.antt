@@ -1,7 +1,8 @@
 use Prim.Native.Nat.{ℕ, ◌+◌, ◌-◌, ◌^◌, min}
 use mathlib.Core.Path.{sym, ap, ◌∙◌}
 use native.Mathlib.Omega.{arith}
-use Rattle.sheet.specs.Sheet.{sheet, hex_digits}
+use Rattle.sheet.specs.Numbers.{hex_digits}
+use Rattle.sheet.specs.Inner.Sheet.{sheet}
 use Rattle.sheet.proofs.Sheets.{with_text-past, length-hex_digits}
 use Rattle.sheet.proofs.hex_digits.Goals as goal
 

@@ -1,7 +1,7 @@
 use native.Mathlib.Omega.{arith}
 use mathlib.Core.Path.{sym, ap, ◌∙◌}
 use Prim.Native.Nat.{ℕ}
-use Rattle.sheet.specs.Sheet.{sheet}
+use Rattle.sheet.specs.Inner.Sheet.{sheet}
 use Rattle.sheet.proofs.Sheets.{with_text-past, rest-step, rest_end}
 use Rattle.sheet.proofs.literal.Goals as goal
 

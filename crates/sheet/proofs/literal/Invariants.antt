@@ -1,6 +1,6 @@
 use mathlib.Core.Path.{◌≡◌}
 use lib.ListN.{drop}
-use Rattle.sheet.specs.Sheet.{sheet, with_text}
+use Rattle.sheet.specs.Inner.Sheet.{sheet, with_text}
 use Rattle.sheet.proofs.literal.Given as goal
 
 abbrev pub invariant-loop-b : goal.invariant-loop-b

@@ -1,6 +1,6 @@
 use mathlib.Core.Path.{refl}
 use borrow.Author.Tests.{lt-ltb, le-ltb}
-use Rattle.sheet.specs.Sheet.{with_byte}
+use Rattle.sheet.specs.Inner.Sheet.{with_byte}
 use Rattle.sheet.proofs.push.Goals as goal
 use Rattle.sheet.proofs.push.Goals.{then-at-out, else-at-out}
 

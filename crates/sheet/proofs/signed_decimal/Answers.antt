@@ -3,7 +3,7 @@ use mathlib.Core.Path.{◌≡◌, ap, ◌∙◌}
 use native.Mathlib.Omega.{arith}
 use borrow.Author.Tests.{lt-ltb, le-ltb}
 use Rattle.text.specs.Text.{decimal}
-use Rattle.sheet.specs.Sheet.{signed_decimal}
+use Rattle.sheet.specs.Numbers.{signed_decimal}
 use Rattle.sheet.proofs.Sheets.{with_text-as, byte-then}
 use Rattle.sheet.proofs.signed_decimal.Goals as goal
 

@@ -1,5 +1,5 @@
 -- `slot_door::first_misfit` meets its contract.
-use Rattle.ty.specs.Inner.Lent.{lent}
+use Rattle.ty.specs.Lent.{lent}
 use Rattle.slot_door.proofs.TraceCalls.{passed-begin, passed-next, found-misfit, found_none}
 use mathlib.Core.Path.{sym, ◌∙◌}
 use native.Mathlib.Omega.{arith}

@@ -1,5 +1,5 @@
 -- `slot_door::first_misfit` meets its contract.
-use Rattle.ty.specs.Inner.Lent.{lent}
+use Rattle.ty.specs.Lent.{lent}
 use Rattle.heap.specs.Inner.Seen.{state}
 use Rattle.slot_door.specs.Traceable.{fits_table}
 use Rattle.slot_door.proofs.TraceCalls.{Passed}

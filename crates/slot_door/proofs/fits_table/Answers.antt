@@ -1,7 +1,7 @@
 -- `slot_door::fits_table` meets its contract.
 use mathlib.Core.Path.{sym, ap, ◌∙◌, subst}
 use Prim.Native.Nat.{◌<◌}
-use Rattle.ty.specs.Inner.Lent.{lent}
+use Rattle.ty.specs.Lent.{lent}
 use Rattle.mark.specs.Inner.Objects.{Laid}
 use Rattle.std.specs.Prelude.{Err}
 use native.Mathlib.Omega.{arith}

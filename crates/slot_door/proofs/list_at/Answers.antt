@@ -1,7 +1,7 @@
 -- `slot_door::list_at` meets its contract.
 use mathlib.Core.Path.{subst}
 use lib.ListN.{length}
-use Rattle.ty.specs.Inner.Lent.{lent}
+use Rattle.ty.specs.Lent.{lent}
 use Rattle.traced.specs.Listing.{listing}
 use Rattle.traced.specs.Inner.Lists.{Lists}
 use Rattle.slot_door.proofs.SlotCalls.{shown-at}

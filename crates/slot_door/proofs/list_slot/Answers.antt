@@ -1,7 +1,7 @@
 -- `slot_door::list_slot` meets its contract.
 use mathlib.Core.Path.{sym, subst}
 use Prim.Native.Nat.{◌<◌}
-use Rattle.ty.specs.Inner.Lent.{lent}
+use Rattle.ty.specs.Lent.{lent}
 use Rattle.mark.specs.Inner.Objects.{Laid}
 use native.Mathlib.Omega.{arith}
 use Rattle.slot_door.proofs.SlotCalls.{fit-of, at_listed, slot-missing, slot-dead, slot-listed}

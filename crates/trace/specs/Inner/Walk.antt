@@ -3,7 +3,7 @@ use Rattle.std.specs.Prelude.{ℕ, ◌+◌, ◌*◌, ◌/◌, ◌≤◌, ◌<◌
 use Rattle.std.proofs.Math.Option.{none, some}
 use Rattle.ty.specs.Types.{Ty, Ty.missing, Ty.int, Ty.physical, Ty.enum, Ty.real, Ty.array, Ty.fields, Ty.access, Ty.file, Ty.protected, Field, Field.field, Table, type_at, none as no_const}
 use Rattle.ty.specs.Words.{word_of, on_word, round_up}
-use Rattle.ty.specs.Inner.Lent.{lent}
+use Rattle.ty.specs.Lent.{lent}
 use Rattle.ty.specs.View.{fields_from, entry_at}
 use Rattle.ty.specs.declared.Table.{Table as Lent}
 use Rattle.ty.specs.declared.Entry.TheVariants.{Record}

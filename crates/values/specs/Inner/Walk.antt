@@ -4,7 +4,7 @@ use Rattle.std.specs.Prelude.{Option as Maybe}
 use Rattle.std.proofs.Math.Option.{Option, none, some}
 use Rattle.text.specs.Text.{comma}
 use Rattle.ty.specs.View.{fields_from}
-use Rattle.ty.specs.Inner.Lent.{lent}
+use Rattle.ty.specs.Lent.{lent}
 use Rattle.ty.specs.declared.Table.{Table}
 use Rattle.values.specs.Values.{cells_text, cells_at, part_cells, array_cells, element_cells, field_cells, element_path, descriptor_line, Parts}
 use Rattle.values.specs.Names.{names_of, until}

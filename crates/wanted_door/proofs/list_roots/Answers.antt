@@ -9,7 +9,7 @@ use Rattle.mark.specs.Inner.Told.{starts_of}
 use Rattle.wanted.specs.Search.{searched}
 use Rattle.wanted_door.specs.Inner.Picking.{notes_if, Inside}
 use Rattle.wanted_door.proofs.Naming.{search-part, search-long, search-clear, can-name, none_found, roots-found}
-use Rattle.ty.specs.Inner.Lent.{lent}
+use Rattle.ty.specs.Lent.{lent}
 use Rattle.wanted_door.proofs.list_roots.Goals as goal
 
 pub slice_bounds-pick_roots-end : goal.slice_bounds-pick_roots-end

@@ -1,6 +1,6 @@
 -- What a search goes through, as the definitions of crate `wanted` name it.
 use Rattle.std.specs.Prelude.{[], ℕ}
-use Rattle.ty.specs.Inner.Lent.{lent}
+use Rattle.ty.specs.Lent.{lent}
 use Rattle.reach.specs.Reach.{Graph, Starts}
 use Rattle.mark.specs.Inner.Objects.{graph_of}
 use Rattle.mark.specs.Inner.Told.{starts_of}

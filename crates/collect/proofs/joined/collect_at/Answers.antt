@@ -1,6 +1,6 @@
 -- `collect::joined::collect_at` meets its contract.
 use mathlib.Core.Path.{refl, sym}
-use Rattle.ty.specs.Inner.Lent.{lent as table_lent}
+use Rattle.ty.specs.Lent.{lent as table_lent}
 use Rattle.frame.specs.Frame.{frame_handles, addresses_in}
 use Rattle.collect.proofs.RootRows.{small, row-past, rows-again, at_none, at_row}
 use Rattle.code.specs.Inner.Plans.{lent}

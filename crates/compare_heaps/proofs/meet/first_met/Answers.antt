@@ -1,7 +1,7 @@
 -- `compare_heaps::meet::first_met` meets its contract.
 use Rattle.mark.proofs.States.{clear-scratch}
 use Rattle.compare_heaps.proofs.FirstMet.{stopped, meet-stops, meet-can, meet-done}
-use Rattle.ty.specs.Inner.Lent.{lent}
+use Rattle.ty.specs.Lent.{lent}
 use Rattle.compare_heaps.proofs.meet.first_met.Goals as goal
 
 pub mark_from-requires : goal.mark_from-requires

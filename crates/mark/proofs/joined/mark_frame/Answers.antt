@@ -9,7 +9,7 @@ use Rattle.mark.specs.Inner.Safepoints.{live_values, handles_in, pinned_in}
 use Rattle.mark.proofs.States.{then-same}
 use Rattle.mark.proofs.FrameMarks.{frame-scratch, frame-stuck, frame-marked}
 use Rattle.mark.proofs.QueueLoop.{reached, stuck}
-use Rattle.ty.specs.Inner.Lent.{lent}
+use Rattle.ty.specs.Lent.{lent}
 use mathlib.Core.Path.{sym, ap}
 use mathlib.Core.List.{List, ◌++◌}
 use Rattle.mark.proofs.joined.mark_frame.Goals as goal

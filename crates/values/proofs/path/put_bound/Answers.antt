@@ -1,6 +1,6 @@
 use mathlib.Core.Path.{ap, ◌∙◌}
 use Rattle.values.specs.Values.{direction, bound_text}
-use Rattle.sheet.specs.Sheet.{signed_decimal}
+use Rattle.sheet.specs.Numbers.{signed_decimal}
 use Rattle.sheet.proofs.Sheets.{with_text-as, and_then}
 use Rattle.values.proofs.path.put_bound.Goals as goal
 

@@ -4,7 +4,7 @@ use Rattle.reach.specs.Marking.{drained}
 use Rattle.mark.specs.Inner.Objects.{graph_of}
 use Rattle.mark.specs.Inner.Queues.{state}
 use Rattle.mark.proofs.QueueLoop.{Draining}
-use Rattle.ty.specs.Inner.Lent.{lent}
+use Rattle.ty.specs.Lent.{lent}
 use Rattle.mark.proofs.queue.Queue.drain.Given as goal
 
 abbrev pub invariant-loop-next : goal.invariant-loop-next

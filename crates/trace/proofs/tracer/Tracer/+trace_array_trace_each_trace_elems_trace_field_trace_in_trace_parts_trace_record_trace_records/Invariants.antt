@@ -1,7 +1,7 @@
 use Prim.Native.Nat.{◌+◌, ◌-◌, ◌*◌, ◌≤◌}
 use mathlib.Core.Path.{◌≡◌}
 use lib.ListN.{length}
-use Rattle.ty.specs.Inner.Lent.{lent}
+use Rattle.ty.specs.Lent.{lent}
 use Rattle.ty.specs.View.{fields_from}
 use Rattle.trace.specs.Inner.Emit.{raw_of, handing_at}
 use Rattle.trace.specs.Inner.Walk.{walk, elem_places, record_places, records_places}
