@@ -10,7 +10,8 @@
 6. The grammar of docs/FORMAT.md, as a regular expression, with the counts and widths beside it, says of every one of these pages, and of tables changed in the same ways, whether it is one, as reader.py does;
    a table that is taken is printed again to the same bytes.
 7. The examples and digests of docs/FORMAT.md are these files'.
-8. How many changed pages are taken all the same is printed, since a page has no checksum.
+8. The values of random objects as text follow the grammar of section 19; the handles in it are those of the trace, in order; with one bit of the value changed at most one line changes; and the examples of section 19 are the samples' values.
+9. How many changed pages are taken all the same is printed, since a page has no checksum.
 Byte 10 is `;` on a line for replay; a page in which `;`, blank or byte 0 would stand, or one past 60,000 bytes, is left out. It ends with 1 if anything differs."""
 import glob
 import hashlib
@@ -235,6 +236,60 @@ def layouts(replay, turns):
     return wrong
 
 
+SIGNED = r"-?(?:0|[1-9][0-9]*)"
+BOUND = SIGNED + " (?:to|downto) " + SIGNED
+PATH = rf"(?:\.[^,\n]*?|\((?:{SIGNED}(?: {SIGNED})*)?\))*"
+VALUES = re.compile(rf"{PATH},(?:(?:Int|Physical),{SIGNED}(?: [^ \n,]+)?|(?:Enum|File),[0-9]+(?: [^ \n,]+)?|Real,[0-9a-f]{{16}}|(?:Access|Protected),(?:0 null|[1-9][0-9]* slot [0-9]+)|Array,(?:{BOUND}(?: {BOUND})*)?|Logic,[UX01ZWLH9a-f-]*)")
+
+
+def object_of(table, t):
+    """A descriptor and enough bytes for a value of type t, or no descriptor that fits was found."""
+    small = lambda: struct.pack("<qqQ", random.choice([0, 1, 5]), random.choice([0, 1, 3, 7]), random.choice([0, 0, 1]))
+    desc = b"".join(small() for _ in range(reader.desc_size(table, t) // 24))
+    size = reader.layout(table, t, desc)[0]
+    reader.need(size <= 4000, reader.NoLayout)
+    return desc, bytes(random.choice([0, 0, 1, random.randrange(256)]) for _ in range(size))
+
+
+def one_object(table, t):
+    """What is wrong with the text of a random object, or None. NoLayout where the type has none."""
+    desc, value = object_of(table, t)
+    text = reader.values(table, t, desc + value)
+    lines = text.split("\n")[1:-1]
+    told = [int(x.split(",")[2].split(" ")[0]) for x in lines if x.split(",")[1] in ("Access", "Protected")]
+    if not all(VALUES.fullmatch(x) for x in lines):
+        return "grammar"
+    if told != reader.slot_handles(table, {"kind": 1, "type": t, "start": 0, "data": desc + value}):
+        return "handles"
+    if value:
+        i, bit = random.randrange(len(value)), 1 << random.randrange(8)
+        other = value[:i] + bytes([value[i] ^ bit]) + value[i + 1:]
+        again = reader.values(table, t, desc + other).split("\n")[1:-1]
+        if len(again) != len(lines) or sum(a != b for a, b in zip(lines, again)) > 1:
+            return "more than one line"
+
+
+def values(turns):
+    wrong, asked = 0, 0
+    for table in (t for t in (random_table() for _ in range(turns)) if reader.good_table(t)):
+        for t in range(len(table["types"])):
+            try:
+                why = one_object(table, t)
+            except reader.NoLayout:
+                continue
+            asked, wrong = asked + 1, wrong + (why is not None)
+            if why:
+                print("values:", why, table, t)
+    text = open(os.path.join(here, "..", "FORMAT.md")).read()
+    for name, t in (("record", 3), ("logic", 1)):
+        heap, table = (read(open(os.path.join(here, name + end), "rb").read()) for read, end in ((reader.read_page, ".page"), (reader.read_table, ".table")))
+        if "".join("    " + line + "\n" for line in reader.values(table, t, heap["slots"][0]["data"]).split("\n")[:-1]) not in text:
+            wrong += 1
+            print("not in FORMAT.md: the values of", name)
+    print(f"values: {asked} objects as they should be but for {wrong}")
+    return wrong
+
+
 def documents():
     """The examples of FORMAT.md, with four blanks before each line, and their digests; and the copies in the bag, of which make.py --deposit writes new ones."""
     wrong, text = 0, open(os.path.join(here, "..", "FORMAT.md")).read()
@@ -264,6 +319,7 @@ def main(replay, seed):
     wrong += together(replay, 100)
     wrong += grammar(400)
     wrong += layouts(replay, 400)
+    wrong += values(4000)
     sys.exit(1 if wrong else 0)
 
 

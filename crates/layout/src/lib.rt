@@ -47,7 +47,7 @@ pub fn dim_len(left: u64, right: u64, dir: u64) -> Option<u64>
 }
 
 // The positions of all dimensions. Per dimension: short, direction, length 2^64, product.
-fn dims_count(d: &[u8], dims: u64) -> Result<u64, Refusal>
+pub fn dims_count(d: &[u8], dims: u64) -> Result<u64, Refusal>
     ensures { result ≡ dims_of dims d.now 1 }
 {
     let mut n: u64 = 1;

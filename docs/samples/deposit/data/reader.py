@@ -4,6 +4,7 @@
     reader.py page PAGE [TABLE]     what stands in a page: its objects and where their handles lead
     reader.py fits PAGE TABLE       whether every Typed object of the page can be traced by the table
     reader.py same PAGE ROOTS PAGE ROOTS [TABLE]    whether two pages hold the same model from these handles on (decimals with commas between them, or `sealed`), and which comes first
+    reader.py values PAGE TABLE     the values of each Typed object as text (section 19)
     reader.py answer FILE..         the number that a reader tells of each file: 0, 17, 1 or 10
 
 Section numbers are FORMAT.md's. Every number of a file is checked before it is used: a damaged file may have any count."""
@@ -294,6 +295,72 @@ def compared(first, second, table):
         return "13"
     return "same" if a == b else "different: less" if a < b else "different: greater"
 
+CODES = "UX01ZWLH-9abcdef"
+CLASSES = ["Int", "Physical", "Enum", "Real", "Array", "", "Access", "File", "Protected"]
+
+def signed(x, size):
+    return x - 256 ** size if x >= 256 ** size // 2 else x
+
+def remark(name, k):
+    """Section 19: a blank and word k after the colon of a type's name, nothing where it has fewer."""
+    words = [w for w in name.partition(":")[2].split(" ") if w]
+    return " " + words[k] if k < len(words) else ""
+
+def indices(dims, k):
+    """The indices of element k, of which the last varies fastest."""
+    found = []
+    for left, right, down in reversed(dims):
+        k, i = divmod(k, max((left - right if down else right - left) + 1, 1))
+        found.insert(0, str(left - i if down else left + i))
+    return " ".join(found)
+
+def scalar_text(c, name, x, size):
+    led = " null" if x == 0 else f" slot {x >> 32 & 0xffffff}"
+    return [signed(x, size), f"{signed(x, 8)}{remark(name, 0)}", f"{x}{remark(name, x)}", f"{x:016x}", "", "", f"{x}{led}", x, f"{x}{led}"][c]
+
+def array_lines(table, t, data, desc, path, at, depth):
+    _, a, b, d, _ = type_at(table, t, depth)
+    _, _, stride, count, _ = layout(table, t, desc, depth)
+    dims = [struct.unpack_from("<qqq", desc, 24 * k) for k in range(d)]
+    yield f"{path},Array," + " ".join(f"{left} {'downto' if down else 'to'} {right}" for left, right, down in dims)
+    if logic_leaf(table, t):
+        bit = lambda p, i: int.from_bytes(data[at + 32 * (p // 64) + 8 * i:][:8], "little") >> p % 64 & 1
+        yield f"{path},Logic," + "".join(CODES[sum(bit(p, i) << i for i in range(4))] for p in reversed(range(count)))
+    elif stride:
+        for k in range(count):
+            yield from value_lines(table, a, data, under(table, b, desc[24 * d:]), f"{path}({indices(dims, k)})", at + k * stride, depth + 1, True)
+
+def value_lines(table, t, data, desc, path, at, depth=0, element=False):
+    """The lines of section 19 of a value of type t at a byte of the data, after the first."""
+    c, a, _, _, name = type_at(table, t, depth)
+    if c == 4:
+        yield from array_lines(table, t, data, desc, path, at, depth)
+    elif c == 5:
+        used = 0
+        for i, ((f, k), offset) in enumerate(zip(parts(table, t), layout(table, t, desc, depth)[2])):
+            below = under(table, k, desc[used:])
+            yield from value_lines(table, f, data, below, f"{path}.{table['fields'][a + i][2] or i}", at + offset, depth + 1)
+            used += layout(table, f, below, depth + 1)[4] if k == NO_CONSTANT else 0
+    else:
+        size = layout(table, t, desc, depth, element)[0]
+        x = int.from_bytes(data[at:at + size], "little")
+        yield f"{path},{CLASSES[c]},{scalar_text(c, name, x, size)}"
+
+def values(table, t, data):
+    """The text of an object's visible bytes (section 19). NoLayout where there is none."""
+    n = desc_size(table, t)
+    need(n <= len(data), NoLayout)
+    need(n + layout(table, t, data[:n])[0] <= len(data), NoLayout)
+    return "".join(line + "\n" for line in [f"descriptor,{data[:n].hex()}", *value_lines(table, t, data, data[:n], "", n)])
+
+def show_values(heap, table):
+    for i, slot in enumerate(heap["slots"]):
+        if slot["kind"] == 1:
+            try:
+                print(f"slot {i}\n{values(table, slot['type'], slot['data'][slot['start']:])}", end="")
+            except NoLayout:
+                print(f"slot {i}: no values by this table")
+
 def fits(heap, table):
     """The first slot of a Typed object that has no type of the table or cannot be traced, or None (section 9)."""
     for i, slot in enumerate(heap["slots"]):
@@ -342,12 +409,14 @@ def main(command, words):
             print(name, taken(answer, name))
     elif command == "page":
         show(taken(read_page, words[0]), taken(read_table, words[1]) if len(words) > 1 else None)
+    elif command == "values":
+        show_values(taken(read_page, words[0]), taken(read_table, words[1]))
     else:
         slot = fits(taken(read_page, words[0]), taken(read_table, words[1]))
         print("fits" if slot is None else f"slot {slot} does not fit")
 
 # so many words each, at least
 if __name__ == "__main__":
-    if len(sys.argv) - 2 < {"page": 1, "fits": 2, "same": 4, "answer": 1}.get(sys.argv[1] if sys.argv[1:] else "", len(sys.argv)):
+    if len(sys.argv) - 2 < {"page": 1, "fits": 2, "values": 2, "same": 4, "answer": 1}.get(sys.argv[1] if sys.argv[1:] else "", len(sys.argv)):
         sys.exit(__doc__)
     main(sys.argv[1], sys.argv[2:])

@@ -1,0 +1,2 @@
+-- Text that is written into a list as far as there is room.
+pub mod Sheet
