@@ -3,8 +3,8 @@
 
     generate.py --oracle PATH --seed N [--lines N] [--out FILE]
 
-prints the script. Every input is inside the comparison (document 01's domain, and apart from the named differences), so each line's
-answer by the oracle is the one that the port must give."""
+prints the script. Every input is inside the comparison (docs/SCOPE.md, "Compared with the Rust"), and apart from the named
+differences, so each line's answer by the oracle is the one that the port must give."""
 
 import argparse
 import random

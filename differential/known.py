@@ -17,7 +17,7 @@ OUTSIDE = {
     "shared blocks": "blocks past the code or sharing an instruction are 15 in the port; the Rust panics or lists a safepoint twice. No such function is made",
     "broken heap": "`load` gives well formed heaps only: the oracle does not test them, the port answers 1",
     "checked epoch": "the epoch wraps in both; in a checked build of the Rust it would panic. The release build is compared",
-    "leftovers": "a dead slot's type, start and writes are zero in the port and leftovers in the Rust. `page` shows dead slots as document 01 does, in both",
+    "leftovers": "a dead slot's type, start and writes are zero in the port and leftovers in the Rust. `page` shows dead slots with zeros, in both",
 }
 
 

@@ -2,8 +2,9 @@
 """page.py --page crates/page/out/page [--seeds A-B]    the program `page` against a model of it
 page.py --sample                                   writes crates/pages_tried/stdin and stdout
 
-The model is written from document 01 and docs/DECISIONS.md (7, 8) alone: which lines are calls, what each does, and what is printed. Inputs: every refusal that a script can give, every way
-of being no call's line, lines longer than the buffer, inputs longer than it, and random scripts, in parts of any length."""
+The model is written from docs/SCOPE.md, "A script of calls", and docs/DECISIONS.md (7, 8) alone:
+which lines are calls, what each does, and what is printed. Inputs: every refusal that a script can
+give, every way of being no call's line, lines longer than the buffer, inputs longer than it, and random scripts, in parts of any length."""
 import argparse, os, random, re, subprocess, sys, threading
 
 NAMES = b"call,number,kind,bytes\n"

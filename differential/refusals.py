@@ -1,5 +1,6 @@
 #!/usr/bin/env python3
-"""Refusals that the Rust does not have: 1, 6, 8, 10, 14, 15, 17, 19, 20, 5 and 6 of a page, those of a script of calls, and the named differences. Their numbers come from documents 01 and 02, by hand.
+"""Refusals that the Rust does not have: 1, 6, 8, 10, 14, 15, 17, 19, 20, 5 and 6 of a page, those of a script of calls,
+and the named differences. Their numbers come from docs/SCOPE.md, "Refusals", by hand.
 
     refusals.py --oracle PATH --replay PATH
 

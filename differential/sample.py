@@ -3,7 +3,7 @@
 
     sample.py --oracle PATH --seed N [--lines N] [--out FOLDER]       writes FOLDER/stdin and FOLDER/stdout, by default those of crates/replay
 
-What stands in FOLDER/stdin up to the line that begins with `# From here on` is kept, with its answers: lines written by hand. An answer stands as the port gives it: 13 without what the Rust had pushed. It stops if a call or an answer that the Rust can give is missing. The last part's refusals come from document 01 (refusals.py); its other lines are the oracle's too."""
+What stands in FOLDER/stdin up to the line that begins with `# From here on` is kept, with its answers: lines written by hand. An answer stands as the port gives it: 13 without what the Rust had pushed. It stops if a call or an answer that the Rust can give is missing. The last part's refusals come from docs/SCOPE.md, "Refusals" (refusals.py); its other lines are the oracle's too."""
 
 import argparse
 import os
@@ -93,7 +93,7 @@ def main():
         with open(os.path.join(a.out, name), "w") as f:
             f.write("\n".join(text) + "\n")
     longest = max(map(len, lines))
-    print(f"{len(lines)} lines, the first {len(first[0])} written by hand, the last {len(own[0])} with document 01's own refusals; {len(seen)} pairs of command and answer by the Rust; longest line {longest} bytes; seed {a.seed}")
+    print(f"{len(lines)} lines, the first {len(first[0])} written by hand, the last {len(own[0])} with refusals that the Rust does not have; {len(seen)} pairs of command and answer by the Rust; longest line {longest} bytes; seed {a.seed}")
     return 0
 
 

@@ -5,8 +5,8 @@
     saves.py --replay PATH --script FILE                a script from a file
     saves.py --script FILE                              the model's answers to it, `?` where it has none
 
-The model is written from document 01 and request [5] alone. A heap is made by its page or by calls; tracing goes by the types. `same` is answered by the definition: every pairing is tried where few objects are
-reached, otherwise the one that the roots force; both where both are possible. `order` compares the lists of numbers that the request gives. What the model does not follow (`collect`, `run`, `readtable`, ..) makes the heap or
+The model is written from docs/SCOPE.md alone. A heap is made by its page or by calls; tracing goes by the types. `same` is answered by the definition: every pairing is tried where few objects are
+reached, otherwise the one that the roots force; both where both are possible. `order` compares the lists of numbers that docs/SCOPE.md, "Order of saves", gives. What the model does not follow (`collect`, `run`, `readtable`, ..) makes the heap or
 the table unknown until the next `new`, `load` or `table`, and answers that need it are not compared. It needs no oracle."""
 
 import argparse
@@ -31,7 +31,7 @@ class Slot:
 
 
 class Heap:
-    """A heap by document 01, without what no comparison sees: write counts, seals, since_gc."""
+    """A heap by docs/SCOPE.md, "The heap", without what no comparison sees: write counts, seals, since_gc."""
 
     def __init__(self, tag, most, pool):
         self.tag, self.most, self.pool = tag, most, pool

@@ -1,4 +1,5 @@
-"""Fixed scripts: the cases of document 01's table and what a port of this heap easily gets wrong, a paragraph each."""
+"""Fixed scripts: the proved cases (docs/SCOPE.md, "Proved cases") and what a port of this heap easily gets
+wrong, a paragraph each."""
 
 from known import COLUMNS, NAMES
 from table import NO_CONST, dimension

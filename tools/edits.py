@@ -14,9 +14,9 @@ does not stand or stands more than once, a `new:` that is the same text, an edit
 pair cut in half.
 
 docs/EDITS.md has a row for each public call, which crate yexwalu names, for each wrong program and
-for each misreading, which docs/SCOPE.md names under "What is agreed". Told are: one that has no
-row, a row of none, a row without an edit in the gate, a call's row without one beside it, and an
-edit that is not there.
+for each misreading, which docs/SCOPE.md names under "Wrong programs" and "Misreadings". Told are: one
+that has no row, a row of none, a row without an edit in the gate, a call's row without one beside it,
+and an edit that is not there.
 
 `--show` prints each line that an edit makes, with its place. Whether the check refuses an edit is
 for `rt must-fail` to say. Ends with status 1 if anything is told, or an edit that is tried is not

@@ -29,7 +29,7 @@
 extern "C" {
 #endif
 
-/* Document 01's numbers. There may become more. */
+/* The numbers of refusals, 0 for success. There may become more. */
 enum {
     YEXWALU_OK = 0,
     YEXWALU_BROKEN_HEAP = 1,
@@ -140,7 +140,7 @@ typedef struct {
     size_t sealed;
 } yexwalu_header;
 
-/* Document 01's number, and the values of a call, which says below what they are. */
+/* The refusal's number, 0 for success, and the values of a call, which says below what they are. */
 typedef struct {
     uint64_t number;
     uint64_t first;
@@ -154,7 +154,7 @@ typedef struct {
 } yexwalu_done;
 
 /*
- * A layout: document 01's number, then bytes and alignment of a value, bytes from one element of an array to the next (0 for packed logic and for what is no array), number of elements (of packed
+ * A layout: the refusal's number or 0, then bytes and alignment of a value, bytes from one element of an array to the next (0 for packed logic and for what is no array), number of elements (of packed
  * logic the positions; 1 for what is no array), bytes of the descriptor that were used, and how many of a record's fields' offsets were written; zeros after a refusal.
  */
 typedef struct {

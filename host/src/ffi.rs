@@ -82,7 +82,7 @@ pub struct Figures {
 #[repr(C)]
 #[derive(Clone, Copy, Debug, PartialEq, Eq)]
 pub struct Answer {
-    /// Document 01's number.
+    /// The refusal's number, 0 for success.
     pub number: u64,
     /// The first value, if there is one.
     pub first: u64,
@@ -104,7 +104,7 @@ pub struct Done {
 #[repr(C)]
 #[derive(Clone, Copy, Debug, PartialEq, Eq)]
 pub struct RawLayout {
-    /// Document 01's number.
+    /// The refusal's number, 0 for success.
     pub number: u64,
     /// Bytes of a value.
     pub size: u64,

@@ -31,7 +31,7 @@
 //! ```
 //!
 //! A [`Heap`] has objects, which are found by a [`Handle`]. A [`TypeTable`] says where in an object other handles stand, and a [`Function`] which registers are still needed where a run was stopped: a
-//! collection goes by both. A call that is not done says why by a [`Refusal`]: the number that document 01, "The access heap of a saved run", gives it. Numbers in parentheses are these.
+//! collection goes by both. A call that is not done says why by a [`Refusal`]: its number and its word. Numbers in parentheses are these.
 //!
 //! | To | Take |
 //! |---|---|

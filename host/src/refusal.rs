@@ -1,7 +1,8 @@
 use std::fmt;
 
-/// Why a call was not done: a row of document 01's table, by its number and its word. The table may get more rows. Where several would refuse a call, 18 comes first, then 17, 1, 10, 15, 8, 14, 16, 2, 3, 19, 4, 9, 20, 6, 5, then 11 or 12 as met,
-/// 13 or 21, and 7.
+/// Why a call was not done, by its number and its word. There may become more. Where several would
+/// refuse a call, 18 comes first, then 17, 1, 10, 15, 8, 14, 16, 2, 3, 19, 4, 9, 20, 6, 5, then 11 or
+/// 12 as met, 13 or 21, and 7.
 ///
 /// ```
 /// use yexwalu::Refusal;
@@ -84,13 +85,13 @@ const ALL: &[(Refusal, &str)] = &[
 ];
 
 impl Refusal {
-    /// The number in document 01's table.
+    /// Its number.
     #[must_use]
     pub fn number(self) -> u64 {
         self as u64
     }
 
-    /// The word in document 01's table.
+    /// Its word.
     #[must_use]
     pub fn word(self) -> &'static str {
         ALL.iter().find(|row| row.0 == self).expect("every refusal has its row").1

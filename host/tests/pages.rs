@@ -65,7 +65,7 @@ fn a_page_has_the_length_that_is_told() {
     }
 }
 
-// The column of an object, by the sentence of the request.
+// The column of an object, by the sentence of docs/SCOPE.md, "Byte planes".
 fn planes(bytes: &[u8]) -> Vec<u8> {
     let (words, rest) = bytes.split_at(bytes.len() / 8 * 8);
     let words: Vec<u64> = words.chunks(8).map(|w| u64::from_le_bytes(w.try_into().unwrap())).collect();

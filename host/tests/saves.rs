@@ -1,5 +1,5 @@
 //! Two saves beside each other. `same` is held against a search through all pairings of the objects that the roots lead to, `order` against lists of numbers that are compared from the front; both are written here from the
-//! words of the request, and know nothing of each other. Heaps are small, of every kind of object, under slots and generations of every sort.
+//! words of docs/SCOPE.md, "Order of saves", and know nothing of each other. Heaps are small, of every kind of object, under slots and generations of every sort.
 mod common;
 use common::{scratch, Random};
 use std::cmp::Ordering;

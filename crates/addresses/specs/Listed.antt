@@ -1,5 +1,6 @@
--- The list of addresses with their slots (request [4]): "a list of address and slot index, addresses strictly rising". It is lent as one list of numbers: address,
--- slot index, address, slot index, and so on.
+-- The list of addresses with their slots (SCOPE, "Addresses in the frame"): pairs of an address and
+-- a slot index, addresses strictly rising. It is lent as one list of numbers: address, slot index,
+-- address, slot index, and so on.
 use Rattle.std.specs.Prelude.{◌≡◌, Bool, ◌&&◌, ◌⊎◌, List, [], ◌∷◌, ◌++◌, ℕ, ◌%◌, length, eqb, if◌then◌else◌}
 use Rattle.word.specs.Lists.{rising}
 

@@ -1,4 +1,4 @@
--- What `collect` answers and leaves, over lent memory (01, "Heap", `collect`).
+-- What `collect` answers and leaves, over lent memory (SCOPE, "What a collection keeps").
 use Rattle.std.specs.Prelude.{List, ℕ}
 use Rattle.ty.specs.Types.{Table}
 use Rattle.heap.specs.State.{State}

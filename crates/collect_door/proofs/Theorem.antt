@@ -1,4 +1,5 @@
--- THE THEOREMS of demand 3 for the two public collections. Their contracts say what the answer, the lent memory and the scratch are; whatever satisfies such an
+-- THE THEOREMS of the two public collections: nothing reached is lost, nothing else is kept. Their
+-- contracts say what the answer, the lent memory and the scratch are; whatever satisfies such an
 -- equation collects rightly, said by chains of objects and by walks over the code. Assumes nothing.
 use mathlib.Core.Path.{◌≡◌, refl, sym, ap, ◌∙◌, subst}
 use mathlib.Core.Bool.{true}

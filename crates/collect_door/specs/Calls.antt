@@ -1,5 +1,6 @@
--- The two public collections (01, "Heap", "Frame map and joined collection" and "What the host is told"): the tests in 01's order, then what a collection answers
--- and does, 13 included. A refusal changes nothing; scratch is zero after every answer but 18.
+-- The two public collections (SCOPE, "What a collection keeps" and "Joined collection"): the tests
+-- in the order of SCOPE, "Order of refusals", then what a collection answers and does, 13 included.
+-- A refusal changes nothing; scratch is zero after every answer but 18.
 use Rattle.std.specs.Prelude.{Bool, ◌&&◌, List, [], ◌∷◌, ◌++◌, ℕ, length, leb, eqb}
 use Rattle.std.proofs.Math.Option.{Option}
 use Rattle.refusal.specs.Told.{nothing}
@@ -51,8 +52,9 @@ collect_call g marks work l = calling nothing nothing (marks ∷ work ∷ []) (t
 
 -- ---- collect_joined: 18, 1, 10, 15, 14, 16, then 13
 
--- what is lent to be read: the type table, the function, one value a register, the frame map with the frame's memory, the pins, and the list of addresses with their
--- slots (request [4])
+-- what is lent to be read: the type table, the function, one value a register, the frame map with
+-- the frame's memory, the pins, and the list of addresses with their slots (SCOPE, "Addresses in
+-- the frame")
 pub record Asked : Type 0 where
   pub types : List ℕ
   pub fields : List ℕ

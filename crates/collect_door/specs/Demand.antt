@@ -1,5 +1,6 @@
--- Demand 3 of 01, for both public collections: nothing reached is lost, nothing else is kept. What is right of the answer and of every lent byte afterwards, whatever
--- is lent. Said by chains of objects (crate `reach`) and by walks over the code (crate `flow`).
+-- Both public collections (SCOPE, "What a collection keeps"): nothing reached is lost, nothing else
+-- is kept. What is right of the answer and of every lent byte afterwards, whatever is lent. Said by
+-- chains of objects (crate `reach`) and by walks over the code (crate `flow`).
 use Rattle.std.specs.Prelude.{◌≡◌, true, List, [], ◌∷◌, map, ◌⊎◌, ◌↔◌, ℕ, ◌<◌, length, get_or, Ok, Err}
 use Rattle.std.proofs.Math.Option.{some}
 use Rattle.refusal.specs.Told.{told}

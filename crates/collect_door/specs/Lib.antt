@@ -1,3 +1,3 @@
--- The definitions that the public contracts cite, and what demand 3 says over them.
+-- The definitions that the public contracts cite, and what a right collection is, said over them.
 pub mod Calls
 pub mod Demand

@@ -1,5 +1,7 @@
-// The public collections, part of the front door. All is tested first, each time, in document 01's order: scratch (18), the heap (1), the type table (10), the
-// function (15), the pins and the list of addresses (14), the safepoint (16). `marks`, `work` and `rows` are scratch.
+// The public collections, part of the front door. All is tested first, each time, in the order of
+// SCOPE, "Order of refusals": scratch (18), the heap (1), the type table (10), the function (15),
+// the pins and the list of addresses (14), the safepoint (16). `marks`, `work` and `rows` are
+// scratch.
 #![tactic(auto)]
 
 ghost use Rattle.std.specs.Prelude.{◌≡◌, [], ◌∷◌};

@@ -1,5 +1,6 @@
--- THE THEOREM of demand 3, for every heap and whatever handles its objects show: a collection is refused exactly when a reached object can't be traced; otherwise
--- an object outlives it exactly if it was reached. Assumes nothing.
+-- THE THEOREM of what a collection keeps, for every heap and whatever handles its objects show: a
+-- collection is refused exactly when a reached object can't be traced; otherwise an object outlives
+-- it exactly if it was reached. Assumes nothing.
 use mathlib.Core.Path.{◌≡◌, refl, ap, ◌∙◌, subst}
 use mathlib.Core.Bool.{true}
 use mathlib.Core.List.{List}

@@ -1,5 +1,5 @@
--- THE THEOREM of demand 3 for the joined collection, over its definition: for every heap, type table, function, safepoint, values, frame, pins and list of addresses.
--- Assumes nothing.
+-- THE THEOREM of what the joined collection keeps, over its definition: for every heap, type table,
+-- function, safepoint, values, frame, pins and list of addresses. Assumes nothing.
 use mathlib.Core.Path.{◌≡◌, refl, sym, ap, ◌∙◌, subst}
 use mathlib.Core.Logic.{◌⊎◌, inl, inr, ⊎_elim, ◌↔◌}
 use mathlib.Core.Bool.{true}

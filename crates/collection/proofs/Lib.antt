@@ -1,4 +1,5 @@
--- What other crates use: the laws of the sweep's definition, demand 3 of both collections' definitions, and examples by computation.
+-- What other crates use: the laws of the sweep's definition, what the definitions of both
+-- collections keep, and examples by computation.
 pub mod Dropping
 pub mod Pinned
 pub mod SweptLaws

@@ -1,4 +1,5 @@
--- What the sweep of a collection leaves (01, "Heap", `collect`; demand 3): an object outlives it exactly if it was marked. Assumes nothing.
+-- What the sweep of a collection leaves (SCOPE, "What a collection keeps"): an object outlives it
+-- exactly if it was marked. Assumes nothing.
 use mathlib.Core.Path.{◌≡◌, refl, sym, ap, ◌∙◌, subst}
 use mathlib.Core.Bool.{Bool, true, false, not, ◌&&◌}
 use mathlib.Core.List.{List, [], ◌∷◌, ◌++◌, append_assoc, append-nil}

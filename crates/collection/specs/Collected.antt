@@ -1,4 +1,5 @@
--- What a collection looks at in a heap, and where its chains start (01, "Heap", `collect`, and "Frame map and joined collection").
+-- What a collection looks at in a heap, and where its chains start (SCOPE, "What a collection
+-- keeps" and "Joined collection").
 use Rattle.std.specs.Prelude.{List, ◌++◌, ℕ}
 use Rattle.std.proofs.Math.Option.{Option, none, some}
 use Rattle.word.specs.Result.{Result, ok, refused}

@@ -1,5 +1,6 @@
--- What a collection answers and leaves, by a marking with a queue. What is right of it, by chains, is demand 3 (Demand.antt, and crate collect_door).
--- What is refused before it looks at the objects (18, 1, 10, 14) belongs to the front door.
+-- What a collection answers and leaves, by a marking with a queue. What is right of it, by chains,
+-- is said in Demand.antt and in crate collect_door. What is refused before it looks at the objects
+-- (18, 1, 10, 14) belongs to the front door.
 use Rattle.std.specs.Prelude.{List, ℕ, length}
 use Rattle.std.proofs.Math.Option.{Option, none, some}
 use Rattle.heap.specs.State.{State}

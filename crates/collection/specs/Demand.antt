@@ -1,4 +1,5 @@
--- Demand 3, in its own words: what is right of a collection's answer, said by chains of objects (crate `reach`), with no word of marks or worklists.
+-- What is right of a collection's answer (SCOPE, "What a collection keeps"), said by chains of
+-- objects (crate `reach`), with no word of marks or worklists.
 use Rattle.std.specs.Prelude.{◌≡◌, true, ◌↔◌, ℕ}
 use Rattle.word.specs.Result.{ok}
 use Rattle.heap.specs.State.{State, slot_at, live}

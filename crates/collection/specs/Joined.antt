@@ -1,5 +1,6 @@
--- What the joined collection answers and leaves at a safepoint (01, "Frame map and joined collection"). What is refused before it looks at the frame and the
--- objects (18, 1, 10, 15, 14, 16) belongs to the front door.
+-- What the joined collection answers and leaves at a safepoint (SCOPE, "Joined collection"). What
+-- is refused before it looks at the frame and the objects (18, 1, 10, 15, 14, 16) belongs to the
+-- front door.
 use Rattle.std.specs.Prelude.{Bool, ◌||◌, List, [], ◌∷◌, ◌++◌, ℕ, eqb, length, get_or, filter}
 use Rattle.std.proofs.Math.Option.{Option, none, some}
 use Rattle.ty.specs.Types.{Table}

@@ -1,5 +1,6 @@
--- Demand 3 of the joined collection, in its own words: what is right of its answer, said by chains of objects (crate `reach`) and by walks over the code
--- (crate `flow`), with no word of worklists, bit rows or dataflow.
+-- What is right of the joined collection's answer (SCOPE, "Joined collection"), said by chains of
+-- objects (crate `reach`) and by walks over the code (crate `flow`), with no word of worklists, bit
+-- rows or dataflow.
 use Rattle.std.specs.Prelude.{◌≡◌, ◌⊎◌, ◌↔◌, List, ℕ, get_or}
 use Rattle.std.proofs.Math.Option.{Option, none, some}
 use Rattle.ty.specs.Types.{Table}
@@ -10,7 +11,8 @@ use Rattle.reach.specs.Reach.{Starts, UntraceableFrom, ◌∈◌}
 use Rattle.collection.specs.Collected.{graph}
 use Rattle.collection.specs.Shown.{shown}
 
--- What pins (request [4]): the pins that are given, the list of addresses with their slots, and the addresses of the frame.
+-- What pins (SCOPE, "Addresses in the frame"): the pins that are given, the list of addresses with
+-- their slots, and the addresses of the frame.
 pub record Pinning : Type 0 where
   pub given : List ℕ
   pub listed : List ℕ

@@ -1,4 +1,4 @@
--- What the objects of a heap show a collection (01, "Heap", `collect`).
+-- What the objects of a heap show a collection (SCOPE, "What a collection keeps").
 use Rattle.std.specs.Prelude.{ℕ, List}
 use Rattle.std.proofs.Math.Option.{Option}
 use Rattle.heap.specs.State.{State, slot_at}

@@ -1,5 +1,7 @@
--- What a collection does to the heap once it is known which objects it keeps (01, "Heap", `collect`; request [7]): dropped slots join the free list in slot order, or
--- the retired list where they are worn out, before `recycle`; since_gc is 0; live_bytes is length and 32 over the survivors. `marks` has a number a slot, 0 for what is not kept.
+-- What a collection does to the heap once it is known which objects it keeps (SCOPE, "What a
+-- collection keeps" and "Worn-out slots"): dropped slots join the free list in slot order, or the
+-- retired list where they are worn out, before `recycle`; since_gc is 0; live_bytes is length and
+-- 32 over the survivors. `marks` has a number a slot, 0 for what is not kept.
 use Rattle.std.specs.Prelude.{Bool, ◌&&◌, List, [], ◌∷◌, ℕ, suc, ◌+◌, length, get_or, eqb, if◌then◌else◌}
 use Rattle.heap.specs.State.{Slot, State, live, with_since, with_live}
 use Rattle.heap.specs.Calls.{release, freed, recycle}

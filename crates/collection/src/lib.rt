@@ -1,3 +1,4 @@
-// What a collection does to a heap, plain and joined, and demand 3: definitions and laws, no code.
+// What a collection does to a heap, plain and joined, and which objects it keeps: definitions and
+// laws, no code.
 
 #![tactic(auto)]

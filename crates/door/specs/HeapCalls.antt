@@ -1,5 +1,6 @@
--- The public calls on a heap (01, "What the host is told"): tests in 01's order, 18 and 1 first, then what the call itself answers and does, in numbers.
--- A refusal changes nothing but what the call says; scratch is zero after every answer but 18.
+-- The public calls on a heap (SCOPE, "Calls of the heap"): tests in the order of SCOPE, "Order of
+-- refusals", 18 and 1 first, then what the call itself answers and does, in numbers. A refusal
+-- changes nothing but what the call says; scratch is zero after every answer but 18.
 use Rattle.std.specs.Prelude.{Bool, ◌&&◌, List, [], ◌∷◌, map, ℕ, length, replicate, eqb, leb, if◌then◌else◌}
 use Rattle.word.specs.Result.{Result}
 use Rattle.heap.specs.State.{State}

@@ -1,4 +1,5 @@
--- What a page shows (request [14]): how many objects it has, the bytes of their data, the largest of them; and the line that is printed of it.
+-- What a page shows (SCOPE, "A shelf"): how many objects it has, the bytes of their data, the
+-- largest of them; and the line that is printed of it.
 use Rattle.std.specs.Prelude.{ℕ, ◌+◌, ◌/◌, ◌%◌, max, true, eqb, length, if◌then◌else◌}
 use Rattle.word.specs.Result.{Result, ok, ◌>>=◌}
 use Rattle.text.specs.Text.{decimal, line}

@@ -1,5 +1,5 @@
--- A function's code, where control goes, walks, and what it is for a register to be live (01, "Live map", and numbers 15 and 16 of "What the
--- host is told"). No bit row and no dataflow is named here.
+-- A function's code, where control goes, walks, and what it is for a register to be live (SCOPE,
+-- "The live map", and 15 and 16 of "Refusals"). No bit row and no dataflow is named here.
 use Rattle.std.specs.Prelude.{◌≡◌, ◌⊎◌, ◌↔◌, Bool, true, false, not, ◌&&◌, ◌||◌, filter, List, [], ◌∷◌, ℕ, suc, ◌+◌, ◌-◌, ◌≤◌, ◌<◌, min, max, length, get_or, leb, ltb, eqb, if◌then◌else◌}
 use Rattle.std.specs.List.{list_any}
 use Rattle.word.specs.Lists.{all, has, rising}

@@ -1,4 +1,5 @@
--- The handles and the addresses of a frame's memory by its map (01, "Frame map and joined collection"; slot_roots of heap.rs).
+-- The handles and the addresses of a frame's memory by its map (SCOPE, "Frame map"; slot_roots of
+-- heap.rs).
 use Rattle.std.specs.Prelude.{ℕ, ◌%◌, List, [], ◌∷◌, length, drop, leb, eqb, if◌then◌else◌}
 use Rattle.std.proofs.Math.Option.{Option, none, some}
 use Rattle.ty.specs.Types.{Table}

@@ -1,4 +1,5 @@
--- A heap in lent memory: a header by value, two lists of runs and a pool; how a heap lies there, and the heap that lies there (01, "Heap", Added).
+-- A heap in lent memory: a header by value, two lists of runs and a pool; how a heap lies there,
+-- and the heap that lies there (SCOPE, "The heap").
 use Rattle.std.specs.Prelude.{ℕ, ◌*◌, ◌/◌, List, [], ◌++◌, map, length, take, drop, slice_index}
 use Rattle.word.specs.Run.{run}
 use Rattle.word.specs.Lists.{tabulate}

@@ -1,4 +1,5 @@
--- The lengths of what is lent (01, "Heap"): S and pool in range, six narrow runs of S and four wide ones.
+-- The lengths of what is lent (SCOPE, "The heap"): S and pool in range, six narrow runs of S and
+-- four wide ones.
 use Rattle.std.specs.Prelude.{ℕ, ◌*◌, ◌/◌, Bool, ◌&&◌, ◌==◌, nat_le}
 
 unfoldable pub sizes_fit : (narrow wide pool : ℕ) → Bool

@@ -1,4 +1,4 @@
--- When a heap is well formed (01, "Well formed" and "Added"; request [7]): tests that other definitions branch on.
+-- When a heap is well formed (SCOPE, "Well formed"): tests that other definitions branch on.
 use Rattle.std.specs.Prelude.{ℕ, suc, ◌+◌, ◌%◌, Bool, true, not, ◌&&◌, ◌||◌, ltb, List, [], ◌∷◌, ◌++◌, length, ◌==◌, nat_eq, nat_le, nat_lt}
 use Rattle.word.specs.Lists.{all, all_below}
 use Rattle.handle.specs.Handle.{tag_of, index_of, generation_of}

@@ -1,4 +1,4 @@
--- What `take` hands out: an object's bytes, its length and its start (01, "Heap").
+-- What `take` hands out: an object's bytes, its length and its start (SCOPE, "Calls of the heap").
 use Rattle.std.specs.Prelude.{List, ℕ, length}
 use Rattle.word.specs.Put.{put}
 use Rattle.word.specs.Result.{Result, ok, refused}

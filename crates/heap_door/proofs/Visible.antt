@@ -1,4 +1,5 @@
--- The public call `data` answers two numbers: the pool's bytes there are the visible data (01, "Heap": visible data runs from start). Assumes nothing.
+-- The public call `data` answers two numbers: the pool's bytes there are the visible data (SCOPE,
+-- "The heap": visible data runs from start). Assumes nothing.
 use mathlib.Core.Path.{◌≡◌, refl, sym, ap, ◌∙◌}
 use mathlib.Core.Bool.{Bool, true, false}
 use mathlib.Core.List.{List, [], ◌∷◌, ◌++◌, append_assoc}

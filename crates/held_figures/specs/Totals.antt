@@ -1,4 +1,5 @@
--- The totals of a shelf (request [14]) in words of 64 bits, page by page. Sums of heaps stay far below where they stop.
+-- The totals of a shelf (SCOPE, "A shelf") in words of 64 bits, page by page. Sums of heaps stay
+-- far below where they stop.
 use Rattle.std.specs.Prelude.{◌-◌, ◌^◌, min}
 use Rattle.figures.specs.declared.Figures.{Figures}
 

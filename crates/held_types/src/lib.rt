@@ -20,7 +20,7 @@ ghost use Rattle.frame.specs.Listing.{roots_listing, handles_to, addresses_to};
 use refusal::{Answer, Refusal};
 use ty::Table;
 
-// Document 01's number, 0 for success, and a layout, zeros after a refusal.
+// The refusal's number, 0 for success, and a layout, zeros after a refusal.
 #[repr(C)]
 #[derive(Clone, Copy)]
 pub struct Laying {

@@ -1,4 +1,4 @@
--- Whole histories: 02, [8]. Assumes nothing.
+-- Whole histories (SCOPE, "No handle given twice"). Assumes nothing.
 use mathlib.Core.Path.{◌≡◌, refl, sym, ap, ◌∙◌, subst}
 use mathlib.Core.Bool.{true, false}
 use mathlib.Core.Logic.{◌⊎◌, inl, inr, ⊎_elim}

@@ -1,5 +1,6 @@
--- The number of levels is 01's own bound, depths 0 to 64, and nothing else: an answer other than malformed is the same with any number of levels more, so
--- that levels show only where 01 says "depth 65 is malformed". Assumes nothing.
+-- The number of levels is the bound of SCOPE, "Layouts", depths 0 to 64, and nothing else: an
+-- answer other than malformed is the same with any number of levels more, so that levels show only
+-- at depth 65, which is malformed. Assumes nothing.
 use mathlib.Core.Path.{◌≡◌, refl, ap, subst}
 use mathlib.Core.List.{List, [], ◌∷◌}
 use mathlib.Core.Bool.{Bool, true, false}

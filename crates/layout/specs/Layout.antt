@@ -1,4 +1,5 @@
--- The layout of a value of a type under a descriptor (01, "Type table", and ty.rs), or why there is none: `Malformed` is told as 11, `TooLarge` as 12.
+-- The layout of a value of a type under a descriptor (SCOPE, "Layouts", and ty.rs), or why there is
+-- none: `Malformed` is told as 11, `TooLarge` as 12.
 use Rattle.std.specs.Prelude.{ℕ, zero, suc, ◌+◌, ◌-◌, ◌*◌, ◌/◌, max, List, [], ◌∷◌, ltb, eqb, length, take, drop, Option, Some, None, unwrap_or, Result, Ok, Err, if◌then◌else◌}
 use Rattle.word.specs.Le.{le}
 use Rattle.refusal.specs.declared.Refusal.{Refusal}

@@ -1,4 +1,5 @@
--- The offsets of a record's fields, and what a call for a layout answers and writes (01, "Type table": records align each field; 7 short list).
+-- The offsets of a record's fields, and what a call for a layout answers and writes (SCOPE,
+-- "Layouts": a record aligns each field; 7 short list).
 use Rattle.std.specs.Prelude.{ℕ, ◌+◌, List, [], ◌∷◌, leb, length, drop, Ok, Err, if◌then◌else◌}
 use Rattle.word.specs.Put.{put}
 use Rattle.word.specs.Result.{Result, ok, refused}

@@ -1,4 +1,5 @@
--- A heap under a type table, as far as two saves are compared (02, [5]).
+-- A heap under a type table, as far as two saves are compared (SCOPE, "The same model in two
+-- saves").
 use Rattle.ty.specs.Types.{Table}
 use Rattle.heap.specs.State.{State, slot_at}
 use Rattle.heap.specs.Calls.{resolve}

@@ -1,4 +1,5 @@
--- What the object of a slot holds, by its kind, type, start and bytes and the type table (02, [5]): its handle places, the 64 bits there, the bytes outside.
+-- What the object of a slot holds, by its kind, type, start and bytes and the type table (SCOPE,
+-- "The same model in two saves"): its handle places, the 64 bits there, the bytes outside.
 use Rattle.std.specs.Prelude.{ℕ, suc, ◌+◌, Bool, false, ◌||◌, ◌&&◌, List, [], ◌∷◌, map, length, leb, ltb, if◌then◌else◌}
 use Rattle.std.proofs.Math.Option.{Option, none, some}
 use Rattle.ty.specs.Types.{Table}

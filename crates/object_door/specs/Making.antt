@@ -1,4 +1,5 @@
--- `new` on lent memory (01, "Heap" and "What the host is told"): 18, then 1 where the lent sizes are out of range.
+-- `new` on lent memory (SCOPE, "Calls of the heap" and "Refusals"): 18, then 1 where the lent sizes
+-- are out of range.
 use Rattle.std.specs.Prelude.{List, [], ◌∷◌, ℕ, length, replicate}
 use Rattle.refusal.specs.Told.{nothing}
 use Rattle.refusal.specs.declared.Refusal.TheVariants.{BrokenHeap, Scratch}

@@ -1,4 +1,4 @@
--- What a text is refused for (01, "Page").
+-- What a text is refused for (SCOPE, "The page").
 use Rattle.std.specs.Prelude.{ℕ, Bool, ◌&&◌, ltb, length, if◌then◌else◌}
 use mathlib.Core.Option as maybe
 use mathlib.Core.Option.{none, some}
@@ -8,7 +8,8 @@ use Rattle.word.specs.Result.{Result, ok, refused}
 use Rattle.pages.specs.Form.{Form}
 use Rattle.pages.specs.Page.{brought}
 
--- what a text is refused for, in 01's order, or the heap that it brings: not a page 17, lent sizes out of range or a heap that is not sound 1, beyond the pool 6,
+-- what a text is refused for, in the order of SCOPE, "Order of refusals", or the heap that it
+-- brings: not a page 17, lent sizes out of range or a heap that is not sound 1, beyond the pool 6,
 -- beyond the lent slots 5
 unfoldable pub verdict : (sizes : Bool) (S P : ℕ) → maybe.Option (Form × State) → Result State
 verdict sizes S P none = refused 17

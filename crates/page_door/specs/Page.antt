@@ -1,4 +1,5 @@
--- The page's calls (01, "Page"; 02, [9] and [11]), each refusal in 01's order.
+-- The page's calls (SCOPE, "The page", "Length of a page" and "Forms of a page"), each refusal in
+-- the order of SCOPE, "Order of refusals".
 use Rattle.std.specs.Prelude.{ℕ, Bool, List, length, if◌then◌else◌}
 use Rattle.word.specs.Result.{ok}
 use Rattle.refusal.specs.Told.{refused_by, answered, here, nothing}

@@ -1,4 +1,5 @@
-// The public calls of the page (01, "Page"): a heap as text, both ways, and how long that text is.
+// The public calls of the page (SCOPE, "The page"): a heap as text, both ways, and how long that
+// text is.
 #![tactic(auto)]
 
 ghost use Rattle.std.specs.Prelude.{◌≡◌};

@@ -1,4 +1,4 @@
--- What a page says (01, "Page").
+-- What a page says (SCOPE, "The page").
 use Rattle.std.specs.Prelude.{ℕ, List, false}
 use mathlib.Core.Option.{none, some}
 use Rattle.heap.specs.State.{State}

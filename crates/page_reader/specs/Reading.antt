@@ -1,4 +1,6 @@
--- What reading a page answers and leaves (01, "Page"; 02, [11]): 17, then 1, 6 and 5, or which names were met; a refusal changes nothing, and what the lent heap held before isn't looked at.
+-- What reading a page answers and leaves (SCOPE, "The page" and "Forms of a page"): 17, then 1, 6
+-- and 5, or which names were met; a refusal changes nothing, and what the lent heap held before
+-- isn't looked at.
 use Rattle.std.specs.Prelude.{ℕ, ◌+◌, Bool, ◌&&◌, List, eqb, leb, length, if◌then◌else◌}
 use Rattle.word.specs.Result.{Result, ok, refused}
 use Rattle.heap.specs.State.{State}

@@ -1,4 +1,5 @@
--- What the program `page` prints for an input (01, "Page"; docs/DECISIONS.md, points 7 and 8).
+-- What the program `page` prints for an input (SCOPE, "A script of calls"; docs/DECISIONS.md,
+-- points 7 and 8).
 use Rattle.std.specs.Prelude.{ℕ, Bool, false, List, if◌then◌else◌}
 use Rattle.std.proofs.Math.Option.{Option, none, some}
 use Rattle.word.specs.Result.{Result, ok, refused}

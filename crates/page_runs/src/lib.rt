@@ -1,6 +1,9 @@
-// What the program `page` prints (01, "Page"): the lines of its input are run on a heap of tag 1, 64 slots and 4,096 bytes, and its page is printed, or a refusal alone. A run goes
-// through the input as it comes: `begin`, `go_on` with each part of it, `finish`. Their contracts say that what is left to be printed stays the same at each step, so what `finish` puts
-// is the text that `printed` gives for the whole input. `print_all` does so for an input that is there at once.
+// What the program `page` prints (SCOPE, "A script of calls"): the lines of its input are run on a
+// heap of tag 1, 64 slots and 4,096 bytes, and its page is printed, or a refusal alone. A run goes
+// through the input as it comes: `begin`, `go_on` with each part of it, `finish`. Their contracts
+// say that what is left to be printed stays the same at each step, so what `finish` puts is the
+// text that `printed` gives for the whole input. `print_all` does so for an input that is there at
+// once.
 #![tactic(auto)]
 
 ghost use Rattle.std.specs.Prelude.{◌≡◌, ◌-◌, ◌≤◌, take, drop, false, IsTrue, ◌↔◌};

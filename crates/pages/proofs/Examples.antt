@@ -1,4 +1,5 @@
--- 01's printed page in the form that is written, by computation; the same page in the earlier form; and texts that are no page.
+-- The page of docs/FORMAT.md in the form that is written, by computation; the same page in the
+-- earlier form; and texts that are no page.
 use Prim.Native.Nat.{ℕ}
 use Prim.Native.String.{String}
 use mathlib.Core.Bool.{true, false}
@@ -17,7 +18,7 @@ use Rattle.pages.specs.Form.{form_of, written, earlier, heap_front, retired_too,
 use Rattle.pages.specs.Reading.{slot_named, slot_format, slots_format, retired_count, head_format, retired_format, body_format, page_format, read_page}
 use Rattle.pages.specs.Page.{slot_line, value_line, numbers_line, heap_line, retired_part, page_text, moved}
 
--- 01's heap, but for the number of its writes
+-- the heap of that page, but for the number of its writes
 sample : ℕ → State
 sample n = record { tag = 1; since_gc = 34; reclaim_at = 4096; live_bytes = 0; epoch = 0; log = replicate 16 0; slots = record { generation = 1; kind = 2; type = 0; start = 0; writes = n; bytes = 65 ∷ 66 ∷ [] } ∷ []; free = []; quarantine = []; retired = []; sealed = [] }
 

@@ -1,5 +1,6 @@
--- The heap that a page without `retired` brings is sound exactly if what the page says was well formed before request [7]: its worn-out free slots are moved first, and the heap is judged
--- afterwards. Assumes nothing.
+-- The heap that a page without `retired` brings is sound exactly if what the page says is well
+-- formed but for its worn-out free slots: these are moved first, and the heap is judged afterwards.
+-- Assumes nothing.
 use Prim.Native.Nat.{ℕ}
 use mathlib.Core.Bool.{Bool, true, false, not, ◌&&◌}
 use mathlib.Core.List.{List, [], ◌∷◌, ◌++◌}

@@ -3,8 +3,9 @@ use Rattle.std.specs.Prelude.{Bool, true, false, List, ◌++◌, ℕ, if◌then�
 use Rattle.text.specs.Text.{ascii}
 use Rattle.planes.specs.Planes.{planes}
 
--- write counts of 64 bits under the name `writes64`, or of 32 bits under `writes` (request [6]); with the list `retired` as the last, or without it (request [7]);
--- objects in byte planes under the name `planes`, or as they are under `data` (request [11])
+-- write counts of 64 bits under the name `writes64`, or of 32 bits under `writes`; with the list
+-- `retired` as the last, or without it; objects in byte planes under the name `planes`, or as they
+-- are under `data`
 pub record Form : Type 0 where
   pub wide : Bool
   pub retiring : Bool
@@ -17,7 +18,7 @@ form_of r w p = record { wide = w; retiring = r; planar = p }
 abbrev pub written : (planar : Bool) → Form
 written p = form_of true true p
 
--- the form that document 01 began with
+-- the first form, with none of these names
 abbrev pub earlier : Form
 earlier = form_of false false false
 

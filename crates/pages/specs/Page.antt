@@ -1,4 +1,5 @@
--- The page (01, "Page"; requests [6], [7] and [11]): a heap as text, in every form. Epoch and log are not saved, and read as 0.
+-- The page (SCOPE, "The page" and "Forms of a page"): a heap as text, in every form. Epoch and log
+-- are not saved, and read as 0.
 use Rattle.std.specs.Prelude.{ℕ, ◌<◌, ◌^◌, Bool, true, false, ◌&&◌, ◌≡◌, length, replicate, if◌then◌else◌}
 use mathlib.Core.List.{List, [], ◌∷◌, ◌++◌, flat_map}
 use Rattle.text.specs.Text.{decimal, hex, line, Bytes, All}
@@ -86,6 +87,6 @@ moved false h = freed (with_free h []) h.free
 abbrev pub brought : Form × State → State
 brought p = moved p.0.retiring p.1
 
--- well formed before request [7]: as `sound`, with no word on worn-out slots
+-- well formed as a page without `retired` is judged: as `sound`, with no word on worn-out slots
 unfoldable pub sound_before : State → Bool
 sound_before h = all sound_slot h.slots && partitioned h && sound_seals h.tag (length h.slots) 0 h.sealed && sound_reclaim h.reclaim_at

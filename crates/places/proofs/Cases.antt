@@ -1,5 +1,6 @@
--- Bytes before start are never traced: of 39 bytes of a Handles object that are visible from byte 8 on, none is a handle. Case (k) itself stands in the proved table.
--- Assumes nothing.
+-- Bytes before start are never traced: of 39 bytes of a Handles object that are visible from byte 8
+-- on, none is a handle. Objects whose bytes are all visible stand in the proved table. Assumes
+-- nothing.
 use mathlib.Core.Path.{◌≡◌, refl}
 use mathlib.Core.Option.{some}
 use mathlib.Core.List.{[]}

@@ -1,5 +1,7 @@
--- Traced handles come in order (01, "Traced handles"; request [1]): record fields first to last, each field's handles before the next, array elements rising, a
--- Handles object by offset. So the places of an object, in the order in which they are traced, rise: each begins eight bytes after the one before it, or later.
+-- Traced handles come in order (SCOPE, "Traced handles"): record fields first to last, each field's
+-- handles before the next, array elements rising, a Handles object by offset. So the places of an
+-- object, in the order in which they are traced, rise: each begins eight bytes after the one before
+-- it, or later.
 use Rattle.std.specs.Prelude.{ℕ, ◌+◌, ◌^◌, ◌≤◌, ◌<◌, ◌≡◌, List, [], ◌∷◌, map, length}
 use Rattle.std.proofs.Math.Option.{some}
 use Rattle.ty.specs.Types.{Table}

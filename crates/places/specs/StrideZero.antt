@@ -1,4 +1,5 @@
--- An array of stride 0 (01, "Traced handles"): its elements take no room, so it shows nothing, and walking all of them shows nothing either.
+-- An array of stride 0 (SCOPE, "Traced handles"): its elements take no room, so it shows nothing,
+-- and walking all of them shows nothing either.
 use Rattle.std.specs.Prelude.{ℕ, ◌*◌, ◌^◌, ◌≤◌, ◌<◌, ◌≡◌, true, List, [], length, drop}
 use Rattle.std.proofs.Math.Option.{some}
 use Rattle.ty.specs.Types.{Ty.array, Const.plain, Table, type_at, const_at}

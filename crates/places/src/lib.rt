@@ -1,3 +1,4 @@
-// Theorems of handle places (01, "Traced handles"): each statement stands in specs/, its proof in proofs/. This crate has no code.
+// Theorems of handle places (SCOPE, "Traced handles"): each statement stands in specs/, its proof
+// in proofs/. This crate has no code.
 
 #![tactic(auto)]

@@ -1,5 +1,7 @@
--- Byte planes (02 [11]), for words of any number k of bytes: the whole words of a list of bytes, lowest byte first, each less the one before it, wrapping;
--- then the lowest bytes of all words in turn, then the next lowest, up to the highest; the bytes after the last whole word follow.
+-- Byte planes (SCOPE, "Byte planes"), for words of any number k of bytes: the whole words of a list
+-- of bytes, lowest byte first, each less the one before it, wrapping; then the lowest bytes of all
+-- words in turn, then the next lowest, up to the highest; the bytes after the last whole word
+-- follow.
 use Rattle.std.specs.Prelude.{ℕ, zero, suc, ◌+◌, ◌-◌, ◌*◌, ◌/◌, ◌%◌, ◌^◌, List, [], ◌++◌, length, take, drop, slice_index}
 use Rattle.word.specs.Le.{le, bytes}
 use Rattle.word.specs.Lists.{tabulate}

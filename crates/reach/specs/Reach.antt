@@ -1,4 +1,5 @@
--- What a collection keeps (01, "Frame map and joined collection"; demand 3): chains of objects, and what is reached. No worklist is named here.
+-- What a collection keeps (SCOPE, "What a collection keeps"): chains of objects, and what is
+-- reached. No worklist is named here.
 use Rattle.std.specs.Prelude.{ℕ, ◌≡◌, ◌⊎◌, Bool, true, List, [], ◌∷◌}
 use Rattle.std.proofs.Math.Option.{Option, none, some}
 

@@ -1,4 +1,4 @@
--- Numbers tell refusals, and replies, apart (01, "What the host is told"). Assumes nothing.
+-- Numbers tell refusals, and replies, apart (SCOPE, "Refusals"). Assumes nothing.
 use mathlib.Core.Path.{◌≡◌, refl, sym, ap, ◌∙◌}
 use mathlib.Core.List.{[], ◌∷◌}
 use Prim.Native.Nat.{ℕ}

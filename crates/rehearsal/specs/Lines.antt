@@ -1,4 +1,4 @@
--- The lines of a rehearsal (02 [12]) as data and as text.
+-- The lines of a rehearsal (SCOPE, "Rehearsal") as data and as text.
 use Rattle.std.specs.Prelude.{ℕ, ◌^◌, ◌<◌}
 use Rattle.text.specs.Text.{ascii, decimal, hex, line, Bytes}
 use mathlib.Core.List.{List, [], ◌∷◌, flat_map}

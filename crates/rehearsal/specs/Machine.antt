@@ -1,5 +1,6 @@
--- The plain machine of a rehearsal (02 [12]): a list of objects, each with the handle that a heap of tag 1 would issue it. A collection is said by chains of such
--- handles (crate `reach`); no worklist, columns or marks stand here.
+-- The plain machine of a rehearsal (SCOPE, "Rehearsal"): a list of objects, each with the handle
+-- that a heap of tag 1 would issue it. A collection is said by chains of such handles (crate
+-- `reach`); no worklist, columns or marks stand here.
 use Rattle.std.specs.Prelude.{ℕ, suc, ◌+◌, max, ◌≡◌, Bool, true, false, not, ◌&&◌, ◌||◌, List, [], ◌∷◌, ◌++◌, map, ◌↔◌, eqb, ltb, leb, length, get_or, set, if◌then◌else◌, filter}
 use Rattle.std.proofs.Math.Option.{Option, none, some}
 use Rattle.word.specs.Le.{bytes as bytes_of}
@@ -21,8 +22,10 @@ pub record Object : Type 0 where
   pub type : ℕ
   pub bytes : List ℕ
 
--- How the next handle is found: the age (generation) of each slot number used so far, and the numbers that are free, of which the last is used first. A number that
--- has the last age is not used again (request [7]). `since` and `survived` are what is allocated since the last collection and what that left, as lengths plus 32.
+-- How the next handle is found: the age (generation) of each slot number used so far, and the
+-- numbers that are free, of which the last is used first. A number that has the last age is not
+-- used again. `since` and `survived` are what is allocated since the last collection and what that
+-- left, as lengths plus 32.
 pub record Machine : Type 0 where
   -- in the order of their handles
   pub objects : List Object

@@ -1,4 +1,5 @@
--- A heap as the world of a rehearsal (02 [12]): its calls, as code would make them, on a new heap of tag 1.
+-- A heap as the world of a rehearsal (SCOPE, "Rehearsal"): its calls, as code would make them, on a
+-- new heap of tag 1.
 use Rattle.std.specs.Prelude.{ℕ, List, []}
 use Rattle.std.proofs.Math.Option.{Option, none, some}
 use Rattle.word.specs.Le.{bytes as bytes_of}

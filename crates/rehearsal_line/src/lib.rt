@@ -1,4 +1,4 @@
-// A line of a rehearsal (request [12]), whichever it is.
+// A line of a rehearsal (SCOPE, "Rehearsal"), whichever it is.
 #![tactic(auto)]
 
 ghost use Rattle.std.specs.Prelude.{◌≡◌, ◌/◌, length};

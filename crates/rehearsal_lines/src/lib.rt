@@ -1,4 +1,4 @@
-// The lines of a rehearsal (request [12]), read one at a time.
+// The lines of a rehearsal (SCOPE, "Rehearsal"), read one at a time.
 #![tactic(auto)]
 
 ghost use Rattle.std.specs.Prelude.{◌≡◌, ◌≤◌, length, drop};

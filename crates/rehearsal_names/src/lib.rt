@@ -1,5 +1,6 @@
-// The names held in a rehearsal (request [12]) in lent words: turns in the first `s` words, handles in the next `s`, both in the order of turns. An entry that was
-// dropped has handle 0; such entries are squeezed out when there is no room for one more.
+// The names held in a rehearsal (SCOPE, "Rehearsal") in lent words: turns in the first `s` words,
+// handles in the next `s`, both in the order of turns. An entry that was dropped has handle 0; such
+// entries are squeezed out when there is no room for one more.
 #![tactic(auto)]
 
 ghost use Rattle.std.specs.Prelude.{◌≡◌, ◌<◌, true, length, IfSome};

@@ -1,4 +1,5 @@
-// The rehearsal of one threshold after another (request [12]), each from a new heap, and the line that is printed of each.
+// The rehearsal of one threshold after another (SCOPE, "Rehearsal"), each from a new heap, and the
+// line that is printed of each.
 #![tactic(auto)]
 
 ghost use Rattle.std.specs.Prelude.{◌≡◌, true, ◌/◌, length};

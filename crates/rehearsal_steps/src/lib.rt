@@ -1,4 +1,5 @@
-// A rehearsal under way (request [12]) on a heap that is known to be well formed: its due collection and its allocation. A step costs what the heap's call costs.
+// A rehearsal under way (SCOPE, "Rehearsal") on a heap that is known to be well formed: its due
+// collection and its allocation. A step costs what the heap's call costs.
 #![tactic(auto)]
 
 ghost use Rattle.std.specs.Prelude.{◌≡◌, ◌+◌, ◌/◌, ◌^◌, ◌<◌, length};

@@ -1,4 +1,4 @@
-// The lines `store` and `drop` of a rehearsal (request [12]).
+// The lines `store` and `drop` of a rehearsal (SCOPE, "Rehearsal").
 #![tactic(auto)]
 
 ghost use Rattle.std.specs.Prelude.{◌≡◌, true};

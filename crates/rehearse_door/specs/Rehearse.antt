@@ -1,4 +1,4 @@
--- The public call that rehearses collection thresholds (request [12]).
+-- The public call that rehearses collection thresholds (SCOPE, "Rehearsal").
 use Rattle.std.specs.Prelude.{Bool, ◌&&◌, List, [], ◌∷◌, map, ◌≡◌, ℕ, ◌/◌, leb, length}
 use Rattle.word.specs.Result.{ok}
 use Rattle.text.specs.Put.{put_text}

@@ -1,5 +1,6 @@
-// The public call that rehearses collection thresholds (request [12]), part of the front door. All is tested first, in document 01's order: scratch (18), the text (17),
-// the lent sizes (1), the type table (10), the output (7). `words`, `marks` and `work` are scratch.
+// The public call that rehearses collection thresholds (SCOPE, "Rehearsal"), part of the front
+// door. All is tested first, in this order: scratch (18), the text (17), the lent sizes (1), the
+// type table (10), the output (7). `words`, `marks` and `work` are scratch.
 #![tactic(auto)]
 
 ghost use Rattle.std.specs.Prelude.{◌≡◌, [], ◌∷◌, length};

@@ -1,4 +1,5 @@
--- What `live_refs` answers, and what it leaves (01, "Live map" and "What the host is told"): the refusals in their order, 18, 15, 7.
+-- What `live_refs` answers, and what it leaves (SCOPE, "The live map"): the refusals in their
+-- order, 18, 15, 7.
 use Rattle.std.specs.Prelude.{◌≡◌, Bool, not, ◌||◌, ℕ, ◌+◌, ltb, length, if◌then◌else◌}
 use Rattle.word.specs.Result.{Result, ok, refused}
 use Rattle.word.specs.Put.{put}

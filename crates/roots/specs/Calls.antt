@@ -1,5 +1,6 @@
--- What `live_at` answers, and what it leaves (01, "Live map" and "What the host is told"): the refusals in their order, 18, 15, 16, 7. That the registers
--- listed are exactly those that some walk reads before writing is the law `registers-live` in proofs/Answers.antt.
+-- What `live_at` answers, and what it leaves (SCOPE, "The live map"): the refusals in their order,
+-- 18, 15, 16, 7. That the registers listed are exactly those that some walk reads before writing is
+-- the law `registers-live` in proofs/Answers.antt.
 use Rattle.std.specs.Prelude.{◌≡◌, Bool, not, List, ℕ, ltb, length, replicate, if◌then◌else◌}
 use Rattle.word.specs.Result.{Result, ok, refused}
 use Rattle.word.specs.Put.{put}

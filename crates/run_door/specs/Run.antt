@@ -1,4 +1,4 @@
--- The public call that runs a script (01, "Page" and "What the host is told").
+-- The public call that runs a script (SCOPE, "A script of calls").
 use Rattle.std.specs.Prelude.{◌&&◌, ◌≤◌, ◌*◌, List, [], ◌∷◌, ℕ, leb, length}
 use Rattle.refusal.specs.Told.{nothing}
 use Rattle.refusal.specs.declared.Refusal.TheVariants.{BrokenHeap, Page, Scratch}
@@ -11,8 +11,10 @@ use Rattle.script.specs.Script.{begins_call, run_script}
 abbrev pub Roomy : (pool text room : ℕ) → Type 0
 Roomy pool text room = (n : ℕ) → n ≤ pool → 2 * n ≤ text → n ≤ room
 
--- A run is its lines one after the other, each refused in 01's order, and the heap is checked once. So before the first line is run: scratch (18), which has besides
--- a byte for each byte of the pool; a first line that is no call's (17); the heap (1). A script of no lines is refused by 18 and 1 alone.
+-- A run is its lines one after the other, each refused in the order of SCOPE, "Order of refusals",
+-- and the heap is checked once. So before the first line is run: scratch (18), which has besides a
+-- byte for each byte of the pool; a first line that is no call's (17); the heap (1). A script of no
+-- lines is refused by 18 and 1 alone.
 abbrev pub run_tests : (room marks work : List ℕ) → Lent → (text : List ℕ) → List Test
 run_tests room marks work l t =
     test (enough marks work l && leb (pool_size l) (length room)) Scratch ∷ test (begins_call t) Page ∷ test (well_formed l) BrokenHeap ∷ []

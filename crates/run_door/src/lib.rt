@@ -134,9 +134,11 @@ fn admit(
     Err(Refusal::Page)
 }
 
-// Runs a script of calls, line by line. The run ends at the first line that is refused or is no call's (17), and that is its answer: what the lines before it did stays done.
-// A run is its lines one after the other, each refused in 01's order, and the heap is checked once: 18, then 17 for the first line, then 1.
-// `room` takes an object's data while it is decoded and is as long as the pool at least (18); like `marks` and `work` it is scratch.
+// Runs a script of calls, line by line. The run ends at the first line that is refused or is no
+// call's (17), and that is its answer: what the lines before it did stays done. A run is its lines
+// one after the other, each refused in the order of SCOPE, "Order of refusals", and the heap is
+// checked once: 18, then 17 for the first line, then 1. `room` takes an object's data while it is
+// decoded and is as long as the pool at least (18); like `marks` and `work` it is scratch.
 pub fn yexwalu_run(
     heap: Heap,
     narrow: &mut [u32],

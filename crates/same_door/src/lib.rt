@@ -1,5 +1,7 @@
-// The public calls that compare two heaps under one type table, each from roots of its own and with scratch of its own: whether they are the same model, and which comes first. Tested
-// first, in document 01's order and of both heaps each time: scratch (18), the heap (1); then the type table (10), then whether all that is reached can be traced (13).
+// The public calls that compare two heaps under one type table, each from roots of its own and with
+// scratch of its own: whether they are the same model, and which comes first. Tested first, of both
+// heaps each time, in the order of SCOPE, "Order of refusals": scratch (18), the heap (1); then the
+// type table (10), then whether all that is reached can be traced (13).
 #![tactic(auto)]
 
 ghost use Rattle.std.specs.Prelude.{◌≡◌, [], ◌∷◌, IfOk, map};

@@ -1,4 +1,4 @@
--- THE THEOREM of [5] for the two calls: whatever satisfies their equations is right. Assumes nothing.
+-- THE THEOREM of `same` and `order`: whatever satisfies their equations is right. Assumes nothing.
 use Prim.Native.Nat.{ℕ}
 use mathlib.Core.Path.{◌≡◌, refl, sym, ap, ◌∙◌}
 use mathlib.Core.Logic.{◌⊎◌, inl, inr, ⊎_elim, ◌↔◌}

@@ -1,4 +1,5 @@
--- Numbers tell apart what `same` and `order` find (02, [5]; 01, "What the host is told"). As document 01's numbers begin with 1, no refusal has that of success.
+-- Numbers tell apart what `same` and `order` find (SCOPE, "Order of saves" and "Refusals"). As the
+-- numbers of refusals begin with 1, no refusal has that of success.
 use Rattle.std.specs.Prelude.{◌≡◌, ◌≢◌, ◌↔◌, Bool, true, false, ℕ}
 use Rattle.std.specs.declared.cmp.Ordering.{Ordering}
 use Rattle.std.specs.declared.cmp.Ordering.TheVariants.{Less, Equal, Greater}

@@ -1,4 +1,5 @@
--- What is right of the two calls, in the request's words (02, [5]): by chains and pairings, without a queue, an encoding or a mark.
+-- What is right of the two calls (SCOPE, "The same model in two saves" and "Order of saves"): by
+-- chains and pairings, without a queue, an encoding or a mark.
 use Rattle.std.specs.Prelude.{ℕ, ◌≤◌, min, ◌≡◌, ◌⊎◌, ◌↔◌}
 use Rattle.refusal.specs.Told.{told}
 use Rattle.refusal.specs.declared.Answer.{Answer}

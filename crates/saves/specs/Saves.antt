@@ -1,5 +1,7 @@
--- Two heaps compared under one type table, each from a root list of its own (02, [5]): whether they are the same model, and which comes first. 18 (either heap's scratch), 1 (either heap),
--- 10, then 13 where something reached in either can't be traced, then the answer.
+-- Two heaps compared under one type table, each from a root list of its own (SCOPE, "The same model
+-- in two saves"): whether they are the same model, and which comes first. 18 (either heap's
+-- scratch), 1 (either heap), 10, then 13 where something reached in either can't be traced, then
+-- the answer.
 use Rattle.std.specs.Prelude.{ℕ, List, [], ◌∷◌, length}
 use Rattle.std.specs.declared.cmp.Ordering.{Ordering}
 use Rattle.std.specs.declared.cmp.Ordering.TheVariants.{Less, Equal, Greater}

@@ -1,3 +1,4 @@
-// The same model in two saves, and the order of saves (02, [5]): what the two calls answer. This crate has no code.
+// The same model in two saves, and which comes first (SCOPE, "Order of saves"): what the two calls
+// answer. This crate has no code.
 
 #![tactic(auto)]

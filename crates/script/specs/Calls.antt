@@ -1,4 +1,4 @@
--- Calls as lines of a script: call, number, kind, bytes (01, "Page").
+-- Calls as lines of a script: call, number, kind, bytes (SCOPE, "A script of calls").
 use Rattle.std.specs.Prelude.{ℕ, ◌^◌, ◌<◌, List, [], ◌∷◌}
 use Rattle.text.specs.Text.{ascii, decimal, hex, line, Bytes}
 

@@ -1,4 +1,4 @@
--- A script (01, "Page" and "What the host is told"): lines of text, and what running them does to a heap.
+-- A script (SCOPE, "A script of calls"): lines of text, and what running them does to a heap.
 use Rattle.std.specs.Prelude.{ℕ, Bool, true, false, List, [], ◌∷◌, eqb, if◌then◌else◌}
 use Rattle.std.proofs.Math.Option.{Option, none, some}
 use Rattle.word.specs.Result.{Result, ok, refused}

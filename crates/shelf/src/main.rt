@@ -1,5 +1,7 @@
-// Reads pages from standard input, each after a line with its length in bytes, and prints what each shows and the totals over all that are accepted (request [14]). It only
-// reads and writes: what is printed is put together by crate `shelves`. A read that fails is kept apart from the input's end.
+// Reads pages from standard input, each after a line with its length in bytes, and prints what each
+// shows and the totals over all that are accepted (SCOPE, "A shelf"). It only reads and writes:
+// what is printed is put together by crate `shelves`. A read that fails is kept apart from the
+// input's end.
 #![tactic(auto)]
 
 use shelves::Reading;

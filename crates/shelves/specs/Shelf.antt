@@ -1,4 +1,5 @@
--- A shelf of pages (request [14]): the pages of an input, what is printed of them, and the totals.
+-- A shelf of pages (SCOPE, "A shelf"): the pages of an input, what is printed of them, and the
+-- totals.
 use Rattle.std.specs.Prelude.{ℕ, zero, suc, ◌+◌, ◌-◌, ◌*◌, Bool, ◌&&◌, ◌||◌, List, [], ◌∷◌, ◌++◌, map, eqb, ltb, leb, length, take, drop, if◌then◌else◌}
 use Rattle.word.specs.Result.{Result, ok, refused}
 use Rattle.text.specs.Text.{ascii, newline}

@@ -1,4 +1,5 @@
--- `slot_handles` (01, "Traced handles"; request [1]): the handles that a live slot shows, in trace order; 18, 1, 10, 9, 13, 7.
+-- `slot_handles` (SCOPE, "Traced handles"): the handles that a live slot shows, in trace order; 18,
+-- 1, 10, 9, 13, 7.
 use Rattle.std.specs.Prelude.{ℕ, List, [], ◌∷◌, ◌++◌, length, if◌then◌else◌}
 use Rattle.word.specs.Result.{Result, refused}
 use Rattle.refusal.specs.Told.{nothing}

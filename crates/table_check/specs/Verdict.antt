@@ -1,4 +1,4 @@
--- What a table's text is refused for: not such a text 17, a table that 01 refuses 10.
+-- What a table's text is refused for: not such a text 17, a table that must not be used 10.
 use Rattle.std.proofs.Math.Option.{Option, none, some}
 use Rattle.std.specs.Prelude.{if◌then◌else◌}
 use Rattle.word.specs.Result.{Result, ok, refused}

@@ -195,7 +195,8 @@ fn parse(s: &[u8], words: &mut [u64], halves: &mut [u32]) -> Option<Sections>
     })
 }
 
-// Is a table that was found one that document 01 takes? Its numbers stand in scratch; of its bytes only how many they are matters, so as many of the text stand in for them.
+// Is a table that was found one that may be used (SCOPE, "The type table")? Its numbers stand in
+// scratch; of its bytes only how many they are matters, so as many of the text stand in for them.
 fn table_good(s: &[u8], x: Sections, words: &[u64], halves: &[u32]) -> bool
     requires sectioned { Sectioned s.now x }
     requires holding { Holding s.now words.now halves.now }
@@ -214,7 +215,7 @@ fn table_good(s: &[u8], x: Sections, words: &[u64], halves: &[u32]) -> bool
     check_table(&table)
 }
 
-// Is a text that of a table which document 01 takes? Scratch holds its numbers afterwards.
+// Is a text that of a table that may be used? Scratch holds its numbers afterwards.
 fn admit(s: &[u8], words: &mut [u64], halves: &mut [u32]) -> Result<Sections, Refusal>
     requires { (28672 ≤ length words.old) × (32768 ≤ length halves.old) }
     ensures { Admitted s.now result }

@@ -1,4 +1,5 @@
--- Numbers tell tables that were read, and what a text is refused for, apart (01, "What the host is told"). As document 01's numbers begin with 1, no refusal has that of success.
+-- Numbers tell tables that were read, and what a text is refused for, apart (SCOPE, "Refusals"). As
+-- the numbers of refusals begin with 1, no refusal has that of success.
 use Rattle.std.specs.Prelude.{◌≡◌, ◌≢◌, ◌↔◌, ℕ, List, length}
 use Rattle.word.specs.Result.{Result, ok, refused}
 use Rattle.tables.specs.Table.{Named}

@@ -1,4 +1,5 @@
--- What reading a table's text answers and leaves: scratch too short 18, not such a text 17, a table that 01 refuses 10, lists too short 7. A refusal leaves the lists as they were.
+-- What reading a table's text answers and leaves: scratch too short 18, not such a text 17, a table
+-- that must not be used 10, lists too short 7. A refusal leaves the lists as they were.
 use Rattle.std.specs.Prelude.{ℕ, List, [], ◌∷◌, Bool, ◌&&◌, leb, length, replicate, if◌then◌else◌}
 use Rattle.text.specs.Put.{put_text}
 use Rattle.word.specs.Result.{Result, ok, refused}

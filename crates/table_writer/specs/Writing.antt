@@ -1,5 +1,6 @@
--- What writing a table answers and leaves: names that are not one line of plain text for each type, field and constant 17, a table that 01 refuses 10, an output too
--- short 7. A refusal leaves the output as it was.
+-- What writing a table answers and leaves: names that are not one line of plain text for each type,
+-- field and constant 17, a table that must not be used 10, an output too short 7. A refusal leaves
+-- the output as it was.
 use Rattle.std.specs.Prelude.{ℕ, List, if◌then◌else◌}
 use Rattle.std.proofs.Math.Option.{none, some}
 use Rattle.word.specs.Result.{Result, ok, refused}

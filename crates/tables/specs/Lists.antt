@@ -14,7 +14,7 @@ names_in rows = flat_map (λ r. name_text r.1) rows
 unfoldable pub all_names : Named → List ℕ
 all_names d = names_in d.types ++ (names_in d.fields ++ names_in d.constants)
 
--- a table that 01 takes (otherwise 10)
+-- a table that may be used (SCOPE, "The type table"; otherwise 10)
 unfoldable pub good : Named → Bool
 good d = table_good (numbers_in d.types) (numbers_in d.fields) (numbers_in d.constants) d.bytes
 

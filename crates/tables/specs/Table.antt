@@ -1,5 +1,6 @@
--- A type table as text, in the manner of the page (01, "Page" and "Type table"): names lines, one line a type, a field and a constant, each with a name at its end,
--- then the constants' bytes. Names are carried and not interpreted.
+-- A type table as text, in the manner of the page (SCOPE, "A type table as text"): names lines, one
+-- line a type, a field and a constant, each with a name at its end, then the constants' bytes.
+-- Names are carried and not interpreted.
 use Rattle.std.specs.Prelude.{ℕ, ◌≤◌, Bool, true, not, ◌&&◌, ◌≡◌, leb, eqb, length}
 use mathlib.Core.List.{List, [], ◌∷◌, ◌++◌, flat_map}
 use Rattle.text.specs.Text.{ascii, decimal, hex, line, newline, comma, Bytes, All}

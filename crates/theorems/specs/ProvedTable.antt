@@ -1,5 +1,5 @@
--- The proved table, cases (a), (b) and (d) to (k) of docs/SCOPE.md, and the depths at which
--- nesting ends: what each definition gives, and what it should give, as numbers.
+-- The proved table (SCOPE, "Proved cases"), and the depths at which nesting ends: what each
+-- definition gives, and what it should give, as numbers.
 use Rattle.std.specs.Prelude.{ℕ, Bool, true, List, [], ◌∷◌, length, replicate, ◌≡◌}
 use Rattle.std.proofs.Math.Option.{Option, none, some}
 use Rattle.word.specs.Lists.{all}
@@ -41,15 +41,15 @@ handles_in n = shown (handles_of (record { types = []; consts = [] }) 3 0 0 (rep
 
 unfoldable pub table : List Entry
 table =
-    -- (a) tag 1, index 0, generation 1
+    -- tag 1, index 0, generation 1
     record { gives = packed 1 0 1 ∷ []; says = 72057594037927937 ∷ [] }
-    -- (b) 0 on tag 1
+    -- 0 on tag 1
     ∷ record { gives = resolved (resolve (new 1) 0); says = 2 ∷ [] }
-    -- (k) Handles data of 31, 39, 40 bytes
+    -- Handles data of 31, 39, 40 bytes
     ∷ record { gives = handles_in 31; says = 0 ∷ 0 ∷ [] }
     ∷ record { gives = handles_in 39; says = 0 ∷ 1 ∷ [] }
     ∷ record { gives = handles_in 40; says = 0 ∷ 2 ∷ [] }
-    -- (d) to (j), and the depths of nesting
+    -- layouts, and the depths of nesting
     ∷ laid cases
 
 -- every entry is right

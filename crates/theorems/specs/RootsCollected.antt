@@ -1,5 +1,6 @@
--- Roots for a wanted set (request [10]), over the two public calls: `collect` on the same heap, with the same type table and pins, with the roots that `roots_for` wrote and with scratch
--- no shorter, succeeds and leaves live exactly the wanted slots.
+-- Roots for a wanted set (SCOPE, "Roots for a wanted set"), over the two public calls: `collect` on
+-- the same heap, with the same type table and pins, with the roots that `roots_for` wrote and with
+-- scratch no shorter, succeeds and leaves live exactly the wanted slots.
 use Rattle.std.specs.Prelude.{◌≡◌, true, List, ◌↔◌, ℕ, ◌≤◌, length}
 use Rattle.refusal.specs.declared.Answer.{Answer}
 use Rattle.heap.specs.State.{slot_at, live}

@@ -1,4 +1,4 @@
--- Cases (d) to (j) of the proved table, and the depths at which nesting ends: the types, the
+-- The layouts of the proved table, and the depths at which nesting ends: the types, the
 -- type and the descriptor that are asked about, and the answer.
 use Rattle.std.specs.Prelude.{ℕ, zero, suc, ◌+◌, ◌-◌, ◌^◌, List, [], ◌∷◌, ◌++◌, Ok, Err}
 use Rattle.word.specs.Le.{bytes}
@@ -39,21 +39,21 @@ pub record Case : Type 0 where
 unfoldable pub cases : List Case
 unfolding dim
 cases =
-    -- (d) 1 to 5 of Int 0 .. 100
+    -- 1 to 5 of Int 0 .. 100
     record { types = sample; type = 0; desc = dim 1 5 0; answer = 0 ∷ 20 ∷ 4 ∷ 4 ∷ 5 ∷ 24 ∷ [] }
-    -- (e) 5 to 1
+    -- 5 to 1
     ∷ record { types = sample; type = 0; desc = dim 5 1 0; answer = 0 ∷ 0 ∷ 4 ∷ 4 ∷ 0 ∷ 24 ∷ [] }
-    -- (f) 5 downto 1
+    -- 5 downto 1
     ∷ record { types = sample; type = 0; desc = dim 5 1 1; answer = 0 ∷ 20 ∷ 4 ∷ 4 ∷ 5 ∷ 24 ∷ [] }
-    -- (g) -2^63 to 2^63 - 1; from -2^63 + 1, one-byte elements
+    -- from -2^63 to 2^63 - 1; from -2^63 + 1, with elements of one byte
     ∷ record { types = sample; type = 2; desc = dim (2 ^ 63) (2 ^ 63 - 1) 0; answer = 12 ∷ [] }
     ∷ record { types = sample; type = 2; desc = dim (2 ^ 63 + 1) (2 ^ 63 - 1) 0; answer = 0 ∷ (2 ^ 64 - 1) ∷ 1 ∷ 1 ∷ (2 ^ 64 - 1) ∷ 24 ∷ [] }
-    -- (h) 64, 65 logic positions
+    -- 64, 65 logic positions
     ∷ record { types = sample; type = 4; desc = dim 1 64 0; answer = 0 ∷ 32 ∷ 8 ∷ 0 ∷ 64 ∷ 24 ∷ [] }
     ∷ record { types = sample; type = 4; desc = dim 1 65 0; answer = 0 ∷ 64 ∷ 8 ∷ 0 ∷ 65 ∷ 24 ∷ [] }
-    -- (i) byte Enum, Access, byte Enum
+    -- byte Enum, Access, byte Enum
     ∷ record { types = sample; type = 6; desc = []; answer = 0 ∷ 24 ∷ 8 ∷ 0 ∷ 1 ∷ 0 ∷ 0 ∷ 8 ∷ 16 ∷ [] }
-    -- (j) 256, 257 literals
+    -- 256, 257 literals
     ∷ record { types = sample; type = 8; desc = []; answer = 0 ∷ 1 ∷ 1 ∷ 0 ∷ 1 ∷ 0 ∷ [] }
     ∷ record { types = sample; type = 9; desc = []; answer = 0 ∷ 4 ∷ 4 ∷ 0 ∷ 1 ∷ 0 ∷ [] }
     -- 64 nested arrays of Int are laid out, 65 are malformed

@@ -1,5 +1,6 @@
--- The places of the handles in a value, an object and a slot's data, as byte offsets, and the words there (01, "Traced handles", and "Heap", `collect`;
--- handles_in, object_handles and value_handles of heap.rs). Places stand in the order in which the Rust pushes handles.
+-- The places of the handles in a value, an object and a slot's data, as byte offsets, and the words
+-- there (SCOPE, "Traced handles"; handles_in, object_handles and value_handles of heap.rs). Places
+-- stand in the order in which the Rust pushes handles.
 use Rattle.std.specs.Prelude.{ℕ, zero, suc, ◌+◌, ◌-◌, ◌*◌, ◌/◌, min, Bool, true, false, List, [], ◌∷◌, ◌++◌, map, length, take, drop, leb, eqb, Some, if◌then◌else◌}
 use Rattle.std.proofs.Math.Option.{Option, none, some}
 use Rattle.word.specs.Le.{le}

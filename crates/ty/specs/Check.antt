@@ -1,4 +1,4 @@
--- Which type tables are taken (01, "Type table"; otherwise 10).
+-- Which type tables are taken (SCOPE, "The type table"; otherwise 10).
 use Rattle.std.specs.Prelude.{ℕ, ◌+◌, ◌*◌, ◌/◌, ◌%◌, List, [], ◌∷◌, Bool, true, ◌&&◌, leb, eqb, length, get_or, if◌then◌else◌}
 use Rattle.ty.specs.Types.{Ty}
 use Rattle.word.specs.Lists.{all_below}

@@ -1,4 +1,6 @@
--- The descriptor's size as code works it out (01, "Type table"): the law `exact` in crates/ty_check/proofs/Sizes.antt says that of every table that is taken it is the size, `desc_bytes`.
+-- The descriptor's size as code works it out (SCOPE, "Layouts"): the law `exact` in
+-- crates/ty_check/proofs/Sizes.antt says that of every table that is taken it is the size,
+-- `desc_bytes`.
 use Rattle.std.specs.Prelude.{ℕ, zero, suc, ◌+◌, ◌*◌, List, [], ◌∷◌, eqb, Some, None, if◌then◌else◌}
 use Rattle.ty.specs.Types.{Ty, Ty.missing, Ty.int, Ty.physical, Ty.enum, Ty.real, Ty.array, Ty.fields, Ty.access, Ty.file, Ty.protected, Field, Field.field, type_at, none as no_const}
 use Rattle.ty.specs.Words.{word_of, on_word, Word}

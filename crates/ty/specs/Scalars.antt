@@ -1,4 +1,5 @@
--- Sizes of scalars, and the logic kind of nested arrays (01, "Type table": scalars, narrow elements, logic arrays).
+-- Sizes of scalars, and the logic kind of nested arrays (SCOPE, "Layouts": scalars, narrow
+-- elements, logic arrays).
 use Rattle.std.specs.Prelude.{ℕ, zero, suc, ◌+◌, ◌-◌, ◌^◌, List, Bool, ◌&&◌, ltb, leb, Option, Some, None, if◌then◌else◌}
 use Rattle.ty.specs.Words.{rank}
 use Rattle.ty.specs.Types.{Ty, Ty.missing, Ty.int, Ty.enum, Ty.array, Ty.fields, Ty.file, type_at}

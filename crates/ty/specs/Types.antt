@@ -1,4 +1,4 @@
--- The type table as plain data (01, "Type table").
+-- The type table as plain data (SCOPE, "The type table").
 use Rattle.std.specs.Prelude.{ℕ, List, get_or}
 
 -- a field of a record: its type, and its static descriptor's constant

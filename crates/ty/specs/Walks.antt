@@ -1,11 +1,12 @@
--- Descriptor size, "has handles" and unfolding of a type (01, "Type table", and ty.rs).
--- Each goes down levels, of which the first argument says how many are left: 65, for the depths 0 to 64.
+-- Descriptor size, "has handles" and unfolding of a type (SCOPE, "The type table" and "Layouts",
+-- and ty.rs). Each goes down levels, of which the first argument says how many are left: 65, for
+-- the depths 0 to 64.
 use Rattle.std.specs.Prelude.{ℕ, zero, suc, ◌+◌, ◌*◌, List, [], ◌∷◌, Bool, true, false, ◌||◌, eqb, Option, Some, None, if◌then◌else◌}
 use Rattle.ty.specs.Types.{Ty, Ty.missing, Ty.array, Ty.int, Ty.fields, Ty.physical, Ty.access, Ty.enum, Ty.protected, Ty.real, Field, Field.field, type_at, none as no_const, Ty.file}
 use Rattle.ty.specs.Words.{word_of, on_word, Word}
 
--- Bytes of a descriptor (01: "Descriptor size follows ty.rs"): 24 for each dimension, and those of the parts that have no constant; none past depth 64
--- or at a missing type.
+-- Bytes of a descriptor (SCOPE, "Layouts", and ty.rs): 24 for each dimension, and those of the
+-- parts that have no constant; none past depth 64 or at a missing type.
 abbrev pub plus : Option ℕ → Option ℕ → Option ℕ
 plus None b = None
 plus (Some a) None = None

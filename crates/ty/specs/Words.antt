@@ -1,4 +1,4 @@
--- Numbers of 64 bits, signed ones by their rank, and aligning (01, "Type table").
+-- Numbers of 64 bits, signed ones by their rank, and aligning (SCOPE, "Layouts").
 use Rattle.std.specs.Prelude.{ℕ, ◌+◌, ◌-◌, ◌^◌, max, ltb, Option, Some, None, if◌then◌else◌}
 use Rattle.word.specs.Num.{align_up}
 

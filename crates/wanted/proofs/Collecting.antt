@@ -1,5 +1,5 @@
--- THE THEOREMS of [10] over `collect` itself: what the way gives for a sound heap is the best list, and 21 stands exactly where no list has the outcome.
--- Assumes nothing.
+-- THE THEOREMS of the wanted roots over `collect` itself: what the way gives for a sound heap is
+-- the best list, and 21 stands exactly where no list has the outcome. Assumes nothing.
 use mathlib.Core.Path.{◌≡◌, ap, subst}
 use mathlib.Core.List.{List, [], map}
 use mathlib.Core.Logic.{◌↔◌}

@@ -1,4 +1,5 @@
--- The outcome that [10] of 02 asks for, in its own words: what `collect` answers and leaves, on a heap h whose objects show `handles`.
+-- The outcome that a root list is to have (SCOPE, "Roots for a wanted set"): what `collect` answers
+-- and leaves, on a heap h whose objects show `handles`.
 use Rattle.std.specs.Prelude.{◌≡◌, true, List, map, ◌↔◌, ℕ, ◌≤◌, length}
 use Rattle.std.proofs.Math.Option.{Option}
 use Rattle.word.specs.Result.{ok}

@@ -1,4 +1,5 @@
--- THE THEOREM of [10] for the public call: whatever satisfies its equations has the right roots. Assumes nothing.
+-- THE THEOREM of the public call for wanted roots: whatever satisfies its equations has the right
+-- roots. Assumes nothing.
 use Prim.Native.Nat.{ℕ, ◌≤◌, ◌<◌}
 use Rattle.std.specs.Prelude.{if◌then◌else◌, Ok, Err}
 use Rattle.word.specs.Put.{put}

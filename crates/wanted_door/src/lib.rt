@@ -1,5 +1,7 @@
-// The public call for root lists, part of the front door: which roots let `collect` keep just the wanted slots. Tested first, each time, in document 01's order: scratch (18),
-// the heap (1), the type table (10), pins and wanted slots (14); then 21 where no roots do it, and 7. `marks` and `work` are scratch.
+// The public call for root lists, part of the front door: which roots let `collect` keep just the
+// wanted slots. Tested first, each time, in the order of SCOPE, "Order of refusals": scratch (18),
+// the heap (1), the type table (10), pins and wanted slots (14); then 21 where no roots do it, and
+// 7. `marks` and `work` are scratch.
 #![tactic(auto)]
 
 ghost use Rattle.std.specs.Prelude.{◌≡◌, [], ◌∷◌, map, length, IfOk, filter};

@@ -1,4 +1,5 @@
--- What the calls that list handles answer and write (01, "Traced handles" and "Frame map"; 10, then 13, then 7). `call`: the handles, or the refusal.
+-- What the calls that list handles answer and write (SCOPE, "Traced handles" and "Frame map"; 10,
+-- then 13, then 7). `call`: the handles, or the refusal.
 use Rattle.std.specs.Prelude.{ℕ, List, ◌≡◌, length}
 use Rattle.word.specs.Result.{Result}
 use Rattle.refusal.specs.Told.{answered, nothing}

@@ -1,4 +1,4 @@
--- Which registers the live map has (01, "Live map").
+-- Which registers the live map has (SCOPE, "The live map").
 use Rattle.std.specs.Prelude.{Bool, true, false, ◌||◌, ℕ, eqb}
 
 -- by their class: all, or 2 (Ptr) and 4 (Handle)

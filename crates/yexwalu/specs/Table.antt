@@ -1,4 +1,4 @@
--- A call with a type table (01, "What the host is told": 10 before anything else).
+-- A call with a type table (SCOPE, "Order of refusals": 10 before anything else).
 use Rattle.std.specs.Prelude.{ℕ, List, if◌then◌else◌}
 use Rattle.word.specs.Result.{Result, refused}
 use Rattle.ty.specs.Check.{table_good}

@@ -1,4 +1,4 @@
--- What the calls about types answer (01, "Type table"; 10, then 11 or 12, then 7).
+-- What the calls about types answer (SCOPE, "Layouts"; 10, then 11 or 12, then 7).
 use Rattle.std.specs.Prelude.{ℕ, List, if◌then◌else◌}
 use Rattle.word.specs.Result.{Result, ok}
 use Rattle.ty.specs.Walks.{desc_bytes, has_handles}

@@ -1,5 +1,6 @@
-// The front door: every public call. Each is the export of its name, with its whole contract and no `requires`: it takes all inputs and refuses in the order of
-// document 01. Those on a heap stand in crates of their own, so that each is checked in a short time.
+// The front door: every public call. Each is the export of its name, with its whole contract and no
+// `requires`: it takes all inputs and refuses in the order of SCOPE, "Order of refusals". Those on
+// a heap stand in crates of their own, so that each is checked in a short time.
 #![tactic(auto)]
 
 pub mod types; // layouts, descriptor sizes, "has handles"

@@ -1,5 +1,6 @@
--- What a single trace of the first of two objects keeps, the second's bytes beside: how many bytes are behind, and how the bytes outside the handle places and the handles met so far
--- compare. Bytes go before handles (02, [5]), so the first unlike handle waits for the last byte.
+-- What a single trace of the first of two objects keeps, the second's bytes beside: how many bytes
+-- are behind, and how the bytes outside the handle places and the handles met so far compare. Bytes
+-- go before handles (SCOPE, "Order of saves"), so the first unlike handle waits for the last byte.
 use Rattle.std.specs.Prelude.{ℕ, ◌+◌, ◌-◌, List, [], ◌∷◌, take, drop}
 use Rattle.std.specs.declared.cmp.Ordering.{Ordering}
 use Rattle.std.specs.declared.cmp.Ordering.TheVariants.{Equal}

@@ -1,5 +1,7 @@
--- Handles compared in two heaps whose objects have been met (02, [5]): "a handle that doesn't resolve comes before one that does, two that don't compare as numbers, two that do by the
--- turn". The turn of the object of slot o stands in the upper bits of the o-th word of the heap's work (alike/specs/inner/Packed).
+-- Handles compared in two heaps whose objects have been met (SCOPE, "Order of saves"): one that
+-- does not resolve comes before one that does, two that do not go by their numbers, two that do by
+-- the turn at which their object was first met. The turn of the object of slot o stands in the
+-- upper bits of the o-th word of the heap's work (alike/specs/inner/Packed).
 use Rattle.std.specs.Prelude.{ℕ, ◌/◌, List, get_or}
 use Rattle.std.specs.declared.cmp.Ordering.{Ordering}
 use Rattle.std.specs.Ordering.{nat_cmp}

@@ -1,4 +1,5 @@
--- The joined collection at an instruction of a lent function (01, "Frame map and joined collection" and number 16 of "What the host is told").
+-- The joined collection at an instruction of a lent function (SCOPE, "Joined collection", and 16 of
+-- "Refusals").
 use Rattle.std.specs.Prelude.{◌≡◌, Bool, true, false, List, ℕ, ◌+◌, ◌-◌, ◌*◌, ◌/◌, ◌≤◌, length, take, drop, replicate, if◌then◌else◌}
 use Rattle.std.proofs.Math.Option.{Option}
 use Rattle.word.specs.Ones.{passing}

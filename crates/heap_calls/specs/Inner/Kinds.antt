@@ -1,4 +1,5 @@
--- The kinds of objects by their numbers (01, "Heap"): 1 Typed, 2 Bytes, 3 Handles. Another number is refused, 8.
+-- The kinds of objects by their numbers (SCOPE, "The heap"): 1 Typed, 2 Bytes, 3 Handles. Another
+-- number is refused, 8.
 use Rattle.std.specs.Prelude.{ℕ, Result, Ok, Err, ◌==◌, if◌then◌else◌}
 use Rattle.refusal.specs.declared.Refusal.{Refusal}
 use Rattle.refusal.specs.declared.Refusal.TheVariants.{Kind}
