@@ -102,7 +102,7 @@ def misfits(path, show):
 def public_calls():
     """The names under which crate yexwalu gives the public calls."""
     out = set()
-    for path in glob.glob("crates/yexwalu/src/*.rt"):
+    for path in [f"crates/yexwalu/src/{m}.rt" for m in ("types", "handles", "live", "heaps", "page", "table_text")]:
         text = read(path)
         out.update(re.findall(r"\byexwalu_\w+ as (\w+)", text))
         out.update(re.findall(r"^pub fn (?!yexwalu_)(\w+)", text, re.M))

@@ -15,31 +15,31 @@ import sys
 CRATE = "yexwalu_c"
 # the module of the exports, the file whose public calls it has
 FILES = [
-    ("heaps", "heap_door/src/lib.rt"),
-    ("objects", "object_door/src/lib.rt"),
-    ("collections", "collect_door/src/lib.rt"),
-    ("collections_joined", "collect_door/src/joined.rt"),
-    ("roots_wanted", "wanted_door/src/lib.rt"),
-    ("collections_wanted", "wanted_door/src/collecting.rt"),
-    ("page_texts", "page_door/src/lib.rt"),
-    ("table_texts", "table_door/src/lib.rt"),
-    ("slots", "slot_door/src/lib.rt"),
-    ("runs", "run_door/src/lib.rt"),
-    ("rehearsals", "rehearse_door/src/lib.rt"),
-    ("two_saves", "same_door/src/lib.rt"),
+    ("heaps", "yexwalu/src/questions.rt"),
+    ("objects", "yexwalu/src/objects.rt"),
+    ("collections", "yexwalu/src/collections.rt"),
+    ("collections_joined", "yexwalu/src/collections/joined.rt"),
+    ("roots_wanted", "yexwalu/src/root_lists.rt"),
+    ("collections_wanted", "yexwalu/src/root_lists/collecting.rt"),
+    ("page_texts", "yexwalu/src/pages.rt"),
+    ("table_texts", "yexwalu/src/table_texts.rt"),
+    ("slots", "yexwalu/src/slots.rt"),
+    ("runs", "yexwalu/src/scripts.rt"),
+    ("rehearsals", "yexwalu/src/rehearsals.rt"),
+    ("two_saves", "yexwalu/src/saves.rt"),
     ("types", "yexwalu/src/types.rt"),
     ("handles", "yexwalu/src/handles.rt"),
     ("live", "yexwalu/src/live.rt"),
-    ("held_objects", "held/src/lib.rt"),
-    ("held_changes", "held_edit/src/lib.rt"),
-    ("held_tables", "held_types/src/lib.rt"),
-    ("held_collections", "held_collect/src/lib.rt"),
-    ("held_collections_joined", "held_collect/src/joined.rt"),
-    ("held_readings", "held_reads/src/lib.rt"),
-    ("held_countings", "held_figures/src/lib.rt"),
-    ("held_scripts", "held_run/src/lib.rt"),
-    ("held_roots_wanted", "held_wanted/src/lib.rt"),
-    ("held_two_saves", "held_saves/src/lib.rt"),
+    ("held_objects", "unchecked/src/objects.rt"),
+    ("held_changes", "unchecked/src/changes.rt"),
+    ("held_tables", "unchecked/src/types.rt"),
+    ("held_collections", "unchecked/src/collections.rt"),
+    ("held_collections_joined", "unchecked/src/collections/joined.rt"),
+    ("held_readings", "unchecked/src/reads.rt"),
+    ("held_countings", "unchecked/src/figures.rt"),
+    ("held_scripts", "unchecked/src/scripts.rt"),
+    ("held_roots_wanted", "unchecked/src/wanted_roots.rt"),
+    ("held_two_saves", "unchecked/src/saves.rt"),
 ]
 WORDS = "requires ensures result record old new now entry exit λ if then else true false u8 u32 u64 usize bool mut".split()
 
@@ -121,7 +121,7 @@ def module(path):
     """The text of the exports of a file, and the crates that it names."""
     source = read("crates/" + path)
     crate, file = path.split("/src/")
-    inner = crate if file == "lib.rt" else crate + "::" + file[:-len(".rt")]
+    inner = crate if file == "lib.rt" else crate + "::" + file[:-len(".rt")].replace("/", "::")
     ghosts, uses = imports(source, "ghost use"), imports(source, "(?:pub )?use")
     said, types, out = "", set(), []
     for name, head, parameters, answer in functions(source):
@@ -130,9 +130,9 @@ def module(path):
         out.append('#[unsafe(no_mangle)]\npub extern "C" fn %s%s{\n%s\n}\n' % (name, head, call(inner + "::" + name, [p for p, _ in parameters])))
     clauses = re.sub(r"\(\n.*?^\) -> |\([^\n]*\) -> ", "", said, flags=re.M | re.S)
     needed = [ghosts[n] for n in ghosts if is_named(n, clauses)]
-    theirs = [uses[t] if t in uses else (inner, t) for t in sorted(types)]
+    theirs = [(re.sub(r"^crate\b", crate, uses[t][0]), uses[t][1]) if t in uses else (inner, t) for t in sorted(types)]
     crates = {crate} | {h.split("::")[0] for h, _ in theirs} | {h.split(".")[1] for h, _ in needed}
-    text = "// For C: the calls of %s.\n" % (crate if file == "lib.rt" else crate + ", " + file[:-len(".rt")])
+    text = "// For C: the calls of %s.\n" % inner
     text += "\n".join(import_lines("ghost use", needed, ".")) + "\n\n"
     text += "\n".join(sorted(import_lines("use", theirs, "::"))) + "\n\n" + "\n".join(out)
     return text, crates - {"std"}, [n for n, *_ in functions(source)]
@@ -144,7 +144,7 @@ def main():
         texts["%s.rt" % m], used, exported = module(path)
         crates |= used
         names += exported
-    found = [n for f in sorted(glob.glob("crates/*/src/*.rt")) if not f.startswith("crates/%s/" % CRATE) for n in re.findall(r"^pub fn (yexwalu_\w+)\(", read(f), re.M)]
+    found = [n for f in sorted(glob.glob("crates/*/src/**/*.rt", recursive=True)) if not f.startswith("crates/%s/" % CRATE) for n in re.findall(r"^pub fn (yexwalu_\w+)\(", read(f), re.M)]
     if sorted(found) != sorted(names):
         sys.exit("not exported, or twice: %s" % (set(found) ^ set(names)))
     texts["lib.rt"] = (

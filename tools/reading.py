@@ -39,7 +39,7 @@ THEOREM_CRATES = ("theorems", "laws", "histories")
 # crates of functions that make public calls, and whose contracts are theorems on these
 CALLING_CRATES = ("theorem_calls",)
 # files whose public functions are calls of a library, by names that do not begin with yexwalu_
-LIBRARY_FILES = ("crates/values/src/lib.rt", "crates/name_index/src/lib.rt")
+LIBRARY_FILES = ("crates/values/src/lib.rt", "crates/values/src/name_index.rt")
 IMPORTS = ("use ", "pub use ", "pub mod ", "mod ")
 TOKEN = re.compile(r"[^\s(){}\[\],;]+")
 
@@ -389,7 +389,7 @@ def main():
             wrong.append(f"a contract or a theorem rests on it, and it is in no table: {node[2]} in {book.files[node[1]].path}")
     for module, file in sorted(book.files.items()):
         for name in file.items if ".specs." in module else []:
-            inner = ".specs.Inner." in module
+            inner = ".Inner." in module  # specs/Inner/ of a crate, specs/M/Inner/ of a module
             if inner == (("spec", module, name) in read_of):
                 wrong.append(f"{'a contract or a theorem rests' if inner else 'no public contract and no theorem rests'} on {name} in {file.path}")
     if "--check" in sys.argv:

@@ -1,7 +1,7 @@
 /*
  * The heap of a saved VHDL run, with its type layouts and root maps: the calls that libyexwalu.a exports.
  *
- * Each call is proved to do what its contract says, in the crate that has it (crates/heap_door, object_door, collect_door, wanted_door, page_door, table_door, slot_door, run_door,
+ * Each call is proved to do what its contract says, in the crate that has it (crates/yexwalu, object_door, collect_door, wanted_door, page_door, table_door, slot_door, run_door,
  * rehearse_door, same_door and yexwalu), for all values of its parameters. What a caller owes is what C always asks: a pointer leads to as many elements as the length after it says, is aligned and not null (also
  * where the length is 0), memory that a call may write is lent to no other parameter of it, and a bool is 0 or 1. Calls allocate nothing, keep no pointer, have no
  * state of their own. A call takes at most 128 KB of stack (YEXWALU_STACK_KB): measured by host/c/stack.c, not proved.

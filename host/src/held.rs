@@ -7,8 +7,8 @@
 //!
 //! - `Heap` has header and memory in private fields. It hands out `&Header` and `&Memory`, which have no cells in them, never `&mut`; `into_parts` ends the heap. So only calls write there.
 //! - `Heap::known` is set where a checked call was answered with 0 in that memory (`new`, `read_page`, or any call on parts that were put together): `yexwalu_new` and `yexwalu_read_page` leave a heap that is
-//!   well formed where they answer 0 (`new-formed` in crates/object_door/proofs/Made.antt, `ReadFormed` in crates/theorems/specs), and any other call says 1 unless it was. Nothing else sets it.
-//! - While it is set, every call leaves the heap well formed, also one that is refused: those here by their contracts (`Held`, crates/held/specs; `formed` in crates/held_collect), the checked ones by `CallsDoSteps` in
+//!   well formed where they answer 0 (`new-formed` in crates/yexwalu/proofs/ObjectsLaws/Made.antt, `ReadFormed` in crates/theorems/specs), and any other call says 1 unless it was. Nothing else sets it.
+//! - While it is set, every call leaves the heap well formed, also one that is refused: those here by their contracts (`Held`, crates/unchecked/specs/Objects; `formed` in crates/unchecked), the checked ones by `CallsDoSteps` in
 //!   crates/histories/specs; a page that is not read leaves what was there.
 //!
 //! The collections, `roots_for`, `same`, `order` and `desc_size` require that the type table is in order too. The other calls on a table have no `requires` of it: on every table they answer what their contracts say, which is what

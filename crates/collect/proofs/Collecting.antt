@@ -18,12 +18,12 @@ use Rattle.heap.specs.Done.{Leaves}
 use Rattle.heap.specs.Inner.Tells.{Tells}
 use Rattle.heap.proofs.Packing.{get_or-pad}
 use Rattle.heap.proofs.Sound.{Sound}
-use Rattle.heap_calls.specs.Inner.Marks.{marked_slots}
+use Rattle.heap_ops.specs.HeapCalls.Inner.Marks.{marked_slots}
 use Rattle.heap.proofs.Testing.{formed-tested}
-use Rattle.ty.specs.Types.{Table}
-use Rattle.reach.specs.Reach.{Starts}
-use Rattle.reach.specs.Marking.{State as Marks, marking}
-use Rattle.reach.proofs.Sound.{marks-length}
+use Rattle.type_table.specs.Rows.Types.{Table}
+use Rattle.reachability.specs.Reach.Reach.{Starts}
+use Rattle.reachability.specs.Reach.Marking.{State as Marks, marking}
+use Rattle.reachability.proofs.ReachLaws.Sound.{marks-length}
 use Rattle.collection.specs.Swept.{swept}
 use Rattle.collection.specs.Shown.{shown}
 use Rattle.collection.specs.Collected.{graph, starts}

@@ -5,33 +5,33 @@ use mathlib.Core.List.{List, ◌++◌}
 use mathlib.Core.Option.{Option}
 use Prim.Native.Nat.{ℕ, ◌+◌, ◌*◌, ◌/◌, ◌^◌, ◌≤◌, ◌<◌}
 use Rattle.word.specs.Ones.{passing}
-use Rattle.rows.specs.Inner.Row.{bit_in, part}
+use Rattle.bitset.specs.Rows.Inner.Row.{bit_in, part}
 use Rattle.refusal.specs.Told.{nothing, Reply}
 use Rattle.refusal.specs.declared.Refusal.TheVariants.{NoMap}
 use Rattle.std.specs.Prelude.{Err}
-use Rattle.ty.specs.Types.{Table}
+use Rattle.type_table.specs.Rows.Types.{Table}
 use Rattle.heap.specs.Lent.{Lent as Heap, view}
 use Rattle.heap.specs.WellFormed.{well_formed}
 use Rattle.heap.specs.Inner.Tells.{Tells}
 use Rattle.heap.proofs.Testing.{formed-tested}
-use Rattle.flow.specs.Function.{safepoint}
-use Rattle.flow.specs.Dataflow.{live_before, live_row, holder, track}
-use Rattle.flow.proofs.Lists.{passing-same}
-use Rattle.roots.proofs.Answers.{need-is, found-holder, seen-holder}
+use Rattle.control_flow.specs.Flow.Function.{safepoint}
+use Rattle.control_flow.specs.Flow.Dataflow.{live_before, live_row, holder, track}
+use Rattle.control_flow.proofs.FlowLaws.Lists.{passing-same}
+use Rattle.liveness.proofs.RootsLaws.Answers.{need-is, found-holder, seen-holder}
 use Rattle.collection.specs.Joined.{is_reference, live_references, of_class, registers_of, values_of, joined_by, pins_at, joined}
-use Rattle.addresses.specs.Listed.{slots_of}
+use Rattle.collection.specs.Addresses.Listed.{slots_of}
 use Rattle.mark.specs.Inner.Joining.{row_values}
 use Rattle.collect.specs.Inner.Safepoint.{at_safepoint, row_words, row_start, row_in, CanLook, RootRow}
-use Rattle.code.specs.View.{view as function_in}
-use Rattle.code.specs.Lent.{Lent, function, right, need}
-use Rattle.code.specs.Inner.Columns.{wanted, seen, In}
+use Rattle.control_flow.specs.Code.View.{view as function_in}
+use Rattle.control_flow.specs.Code.Lent.{Lent, function, right, need}
+use Rattle.control_flow.specs.Code.Inner.Columns.{wanted, seen, In}
 use Rattle.liveness.specs.Inner.Scratch.{cell}
-use Rattle.code.specs.Inner.Plans.{planned, all_seen}
+use Rattle.control_flow.specs.Code.Inner.Plans.{planned, all_seen}
 use Rattle.liveness.specs.Inner.Plans.{walk_row}
-use Rattle.code.specs.declared.Tracked.{Tracked}
-use Rattle.code.specs.declared.Tracked.TheVariants.{References}
-use Rattle.code.specs.declared.Plan.{Plan}
-use Rattle.code.proofs.Checks.{formed-fit}
+use Rattle.control_flow.specs.declared.code.Tracked.{Tracked}
+use Rattle.control_flow.specs.declared.code.Tracked.TheVariants.{References}
+use Rattle.control_flow.specs.declared.code.Plan.{Plan}
+use Rattle.control_flow.proofs.CodeLaws.Checks.{formed-fit}
 use Rattle.liveness.proofs.Steps.{part-cell}
 use native.Mathlib.Nat.{mul-le-mul_right}
 use native.Mathlib.Omega.{arith}

@@ -1,6 +1,6 @@
 -- What `collect` answers and leaves, over lent memory (SCOPE, "What a collection keeps").
 use Rattle.std.specs.Prelude.{List, ℕ}
-use Rattle.ty.specs.Types.{Table}
+use Rattle.type_table.specs.Rows.Types.{Table}
 use Rattle.heap.specs.State.{State}
 use Rattle.heap.specs.Calls.{Changed}
 use Rattle.collection.specs.Shown.{shown}

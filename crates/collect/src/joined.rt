@@ -2,24 +2,24 @@
 ghost use Rattle.std.specs.Prelude.{◌≡◌, true, ◌≤◌, length};
 ghost use Rattle.refusal.specs.Told.{nothing};
 ghost use Rattle.heap.specs.Inner.Loans.{lies, state, Replies};
-ghost use Rattle.frame.specs.Frame.{frame_handles, addresses_in};
+ghost use Rattle.tracing.specs.Frame.Frame.{frame_handles, addresses_in};
 ghost use Rattle.mark.specs.Inner.Safepoints.{live_values, handles_in, pinned_in};
 ghost use Rattle.collection.specs.Joined.{joined_by};
 ghost use Rattle.collect.specs.Inner.Safepoint.{at_safepoint, CanLook, RootRow};
 ghost use Rattle.mark.specs.Inner.Scratch.{CanMark};
-ghost use Rattle.ty.specs.Lent.{lent as table_lent};
-ghost use Rattle.code.specs.Lent.{function, right, need};
-ghost use Rattle.code.specs.Inner.Plans.{lent as lent_code};
+ghost use Rattle.type_table.specs.Rows.Lent.{lent as table_lent};
+ghost use Rattle.control_flow.specs.Code.Lent.{function, right, need};
+ghost use Rattle.control_flow.specs.Code.Inner.Plans.{lent as lent_code};
 
 use crate::sweep_after;
-use addresses::Pairs;
-use code::{Code, Plan, Tracked};
+use collection::addresses::Pairs;
+use control_flow::code::{Code, Plan, Tracked};
 use heap::view_mut::ViewMut;
-use heap_calls::pinned::Marks;
+use heap_ops::heap_calls::pinned::Marks;
+use liveness::roots::{live_row, safepoint_block};
 use mark::joined::{Frame, Registers};
 use refusal::{Refusal, Reply};
-use roots::{live_row, safepoint_block};
-use ty::Table;
+use type_table::rows::Table;
 
 // What is lent of a safepoint: the instruction before which the function stands, one value a register, the frame map and the frame's memory.
 #[derive(Clone, Copy)]

@@ -1,3 +1,5 @@
+// Both collections of a well formed heap: mark, then sweep.
+//
 // Collections of a well formed heap in lent memory: what is reached is marked, and the rest is swept. Nothing changes before all that is reached has been
 // traced.
 #![tactic(auto)]
@@ -9,14 +11,15 @@ ghost use Rattle.heap.specs.Inner.Loans.{lies, state, Replies};
 ghost use Rattle.collect.specs.Collect.{collecting};
 ghost use Rattle.collect.specs.Inner.Finished.{finished};
 ghost use Rattle.mark.specs.Inner.Scratch.{CanMark};
-ghost use Rattle.ty.specs.Lent.{lent as table_lent};
+ghost use Rattle.type_table.specs.Rows.Lent.{lent as table_lent};
 
 use heap::view_mut::ViewMut;
-use heap_calls::pinned::{Pinned, Pins};
+use heap_ops::heap_calls::pinned::{Pinned, Pins};
 use refusal::{Refusal, Reply};
-use ty::Table;
+use type_table::rows::Table;
 
 pub mod joined; // at a safepoint, from the frame and the live registers
+pub mod sweep; // what is not marked is released, and the pool is packed again
 
 // What follows a marking: the objects without a mark are dropped, and the quarantined slots that are
 // not pinned become free, or retire where they are worn out, unless an object can't be traced.

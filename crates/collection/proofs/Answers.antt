@@ -7,8 +7,8 @@ use native.Mathlib.Omega.{arith}
 use lib.ListN.{length}
 use Rattle.word.specs.Result.{Result, ok, refused}
 use Rattle.heap.specs.State.{State}
-use Rattle.reach.specs.Reach.{Graph, Starts}
-use Rattle.reach.specs.Marking.{State as Marks, marking}
+use Rattle.reachability.specs.Reach.Reach.{Graph, Starts}
+use Rattle.reachability.specs.Reach.Marking.{State as Marks, marking}
 use Rattle.collection.specs.Collecting.{swept_by, collected}
 
 -- an answer is a success or one refusal

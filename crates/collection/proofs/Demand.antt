@@ -12,9 +12,9 @@ use Rattle.word.proofs.Bools.{bool-ext}
 use Rattle.heap.specs.State.{State, slot_at, live}
 use Rattle.heap.specs.Calls.{refuse, done, resolve}
 use Rattle.heap.proofs.Sound.{Sound}
-use Rattle.reach.specs.Reach.{Graph, Starts, Reached, UntraceableFrom}
-use Rattle.reach.specs.Marking.{State as Marks, marking}
-use Rattle.reach.proofs.Sound.{Sized, Marked, marking-answer, reached-ind, reached-below, refused as stuck-exactly, kept as marked-exactly, lost as lost-exactly, MarkingTells}
+use Rattle.reachability.specs.Reach.Reach.{Graph, Starts, Reached, UntraceableFrom}
+use Rattle.reachability.specs.Reach.Marking.{State as Marks, marking}
+use Rattle.reachability.proofs.ReachLaws.Sound.{Sized, Marked, marking-answer, reached-ind, reached-below, refused as stuck-exactly, kept as marked-exactly, lost as lost-exactly, MarkingTells}
 use Rattle.collection.specs.Swept.{swept}
 use Rattle.heap.proofs.Keeping.{live_inside}
 use Rattle.collection.proofs.SweptLaws.{swept-sound, swept_same, survivor, only-marked, resolved-before, outlives}

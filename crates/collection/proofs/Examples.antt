@@ -9,7 +9,7 @@ use Rattle.std.specs.Prelude.{if◌then◌else◌}
 use Rattle.handle.specs.Handle.{packed, tag_of, index_of, generation_of, resolve_by}
 use Rattle.heap.specs.State.{Slot, State, times}
 use Rattle.heap.specs.Calls.{Changed, refuse, recycle, resolve}
-use Rattle.reach.specs.Marking.{visit, follow, drained, marking}
+use Rattle.reachability.specs.Reach.Marking.{visit, follow, drained, marking}
 use Rattle.collection.specs.Swept.{dropped, drop_slots, live_size, drop_unmarked, swept}
 use Rattle.collection.specs.Collected.{graph, starts}
 use Rattle.collection.specs.Collecting.{collected}

@@ -7,16 +7,16 @@ use mathlib.Core.Option.{Option, none, some}
 use Prim.Native.Nat.{ℕ, ◌≤◌, ◌<◌}
 use Rattle.std.specs.Prelude.{if◌then◌else◌}
 use Rattle.word.proofs.Bools.{bool-ext}
-use Rattle.ty.specs.Types.{Table}
-use Rattle.trace.specs.Places.{words_at, kind_places, handles_of}
+use Rattle.type_table.specs.Rows.Types.{Table}
+use Rattle.tracing.specs.Trace.Places.{words_at, kind_places, handles_of}
 use Rattle.heap.specs.State.{State, slot_at, live, bit, times}
 use Rattle.heap.specs.Calls.{done}
 use Rattle.heap.proofs.Sound.{Sound}
-use Rattle.heap_calls.specs.Inner.Marks.{marked_slots}
-use Rattle.heap_calls.proofs.Marked.{mark-there}
-use Rattle.reach.specs.Reach.{Graph, Starts, First, Next, Reached, UntraceableFrom, ◌∈◌}
-use Rattle.reach.specs.Marking.{State as Marks, marking}
-use Rattle.reach.proofs.Sound.{Sized, Marked, marking-answer, reached-first, reached-next, reached-ind, refused as stuck-exactly, MarkingTells}
+use Rattle.heap_ops.specs.HeapCalls.Inner.Marks.{marked_slots}
+use Rattle.heap_ops.proofs.HeapCallsLaws.Marked.{mark-there}
+use Rattle.reachability.specs.Reach.Reach.{Graph, Starts, First, Next, Reached, UntraceableFrom, ◌∈◌}
+use Rattle.reachability.specs.Reach.Marking.{State as Marks, marking}
+use Rattle.reachability.proofs.ReachLaws.Sound.{Sized, Marked, marking-answer, reached-first, reached-next, reached-ind, refused as stuck-exactly, MarkingTells}
 use Rattle.collection.specs.Swept.{swept}
 use Rattle.collection.specs.Shown.{shown}
 use Rattle.collection.specs.Collected.{graph}
@@ -26,7 +26,7 @@ use Rattle.heap.proofs.Keeping.{live_inside}
 use Rattle.collection.proofs.SweptLaws.{swept-pins, swept-alive}
 use Rattle.collection.proofs.Demand.{sized, reached-live, collected-by, marks-there}
 use Rattle.word.specs.Lists.{has}
-use Rattle.reach.proofs.Visiting.{has-in, in-has}
+use Rattle.reachability.proofs.ReachLaws.Visiting.{has-in, in-has}
 use native.Mathlib.Omega.{arith}
 use native.Mathlib.Decide.{dec_lt}
 use lib.ListN.{length, get_or}

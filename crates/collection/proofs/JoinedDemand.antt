@@ -7,13 +7,13 @@ use mathlib.Core.List.{List, [], ◌∷◌, ◌++◌}
 use mathlib.Core.Option.{Option, none, some}
 use Prim.Native.Nat.{ℕ, ◌<◌}
 use Rattle.word.specs.Result.{ok, refused}
-use Rattle.ty.specs.Types.{Table}
+use Rattle.type_table.specs.Rows.Types.{Table}
 use Rattle.heap.specs.State.{State}
 use Rattle.heap.specs.Calls.{Changed, done}
 use Rattle.heap.proofs.Sound.{Sound}
-use Rattle.flow.specs.Function.{Function, valid, safepoint}
-use Rattle.addresses.specs.Listed.{paired}
-use Rattle.reach.specs.Reach.{Graph, Starts, First, Chain, Reached, UntraceableFrom, ◌∈◌}
+use Rattle.control_flow.specs.Flow.Function.{Function, valid, safepoint}
+use Rattle.collection.specs.Addresses.Listed.{paired}
+use Rattle.reachability.specs.Reach.Reach.{Graph, Starts, First, Chain, Reached, UntraceableFrom, ◌∈◌}
 use Rattle.collection.specs.Swept.{swept}
 use Rattle.collection.specs.Collected.{graph, starts}
 use Rattle.collection.specs.Collecting.{collected}

@@ -6,16 +6,16 @@ use Prim.Native.Nat.{ℕ}
 use lib.ListN.{replicate}
 use Rattle.word.specs.Ones.{passing}
 use Rattle.handle.specs.Handle.{packed, tag_of, index_of, generation_of, resolve_by}
-use Rattle.ty.specs.Types.{Table}
-use Rattle.trace.specs.Places.{words_at, kind_places, handles_of}
+use Rattle.type_table.specs.Rows.Types.{Table}
+use Rattle.tracing.specs.Trace.Places.{words_at, kind_places, handles_of}
 use Rattle.heap.specs.State.{Slot, State, times}
 use Rattle.heap.specs.Calls.{Changed, refuse, recycle, resolve}
-use Rattle.flow.specs.Function.{Function, reads, writes, successors}
-use Rattle.flow.specs.Dataflow.{gen, kill, live_in, live_before, live_row, track}
-use Rattle.reach.specs.Marking.{visit, follow, drained, marking}
+use Rattle.control_flow.specs.Flow.Function.{Function, reads, writes, successors}
+use Rattle.control_flow.specs.Flow.Dataflow.{gen, kill, live_in, live_before, live_row, track}
+use Rattle.reachability.specs.Reach.Marking.{visit, follow, drained, marking}
 use Rattle.collection.specs.Swept.{dropped, drop_slots, live_size, drop_unmarked, swept}
 use Rattle.collection.specs.Collecting.{collected}
-use Rattle.addresses.specs.Listed.{slot_of, slots_of}
+use Rattle.collection.specs.Addresses.Listed.{slot_of, slots_of}
 use Rattle.collection.specs.Joined.{live_references, registers_of, values_of, pins_at, joined}
 
 abbrev object : (generation : ℕ) → Slot

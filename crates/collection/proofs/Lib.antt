@@ -11,3 +11,4 @@ pub mod JoinedDemand
 pub mod Examples
 pub mod JoinedExamples
 pub mod Twice
+pub mod AddressesLaws

@@ -14,8 +14,8 @@ use Rattle.word.proofs.Bools.{bool-ext}
 use Rattle.heap.specs.State.{State, bit, times, with_quarantine, with_reclaim}
 use Rattle.heap.specs.Calls.{freed, recycle}
 use Rattle.word.specs.Lists.{has}
-use Rattle.reach.specs.Reach.{◌∈◌}
-use Rattle.reach.proofs.Visiting.{has-in, in-has}
+use Rattle.reachability.specs.Reach.Reach.{◌∈◌}
+use Rattle.reachability.proofs.ReachLaws.Visiting.{has-in, in-has}
 
 -- ---- in a list, and how often
 

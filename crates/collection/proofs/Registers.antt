@@ -6,13 +6,13 @@ use mathlib.Core.Logic.{◌⊎◌, inl, inr, ⊎_elim, ◌↔◌}
 use mathlib.Core.List.{List, [], ◌∷◌, ◌++◌}
 use Prim.Native.Nat.{ℕ}
 use Rattle.heap.specs.State.{State}
-use Rattle.flow.specs.Function.{Function, valid, safepoint, Live, LiveList}
+use Rattle.control_flow.specs.Flow.Function.{Function, valid, safepoint, Live, LiveList}
 use Rattle.word.proofs.Bools.{or_cases, or_left, or_right, and_both, both-and}
-use Rattle.flow.proofs.Lists.{has-filter}
-use Rattle.flow.proofs.Validity.{valid-disjoint, safepoint-held, row_list}
-use Rattle.addresses.specs.Listed.{paired, slots_of}
-use Rattle.addresses.proofs.Listing.{slots-listed}
-use Rattle.reach.specs.Reach.{◌∈◌}
+use Rattle.control_flow.proofs.FlowLaws.Lists.{has-filter}
+use Rattle.control_flow.proofs.FlowLaws.Validity.{valid-disjoint, safepoint-held, row_list}
+use Rattle.collection.specs.Addresses.Listed.{paired, slots_of}
+use Rattle.collection.proofs.AddressesLaws.Listing.{slots-listed}
+use Rattle.reachability.specs.Reach.Reach.{◌∈◌}
 use Rattle.collection.specs.Collected.{starts}
 use Rattle.collection.specs.Joined.{is_reference, live_references, registers_of, root_registers, pointer_registers, values_of, pins_at}
 use Rattle.collection.specs.JoinedDemand.{Pinning, LiveValue, AddressPin, JoinedStarts}

@@ -8,14 +8,14 @@ use Prim.Native.Nat.{ℕ, ◌+◌, ◌*◌, ◌<◌, max}
 use Rattle.std.specs.Prelude.{if◌then◌else◌, filter}
 use Rattle.word.specs.Result.{ok}
 use Rattle.word.specs.Lists.{has}
-use Rattle.ty.specs.Types.{Table}
+use Rattle.type_table.specs.Rows.Types.{Table}
 use Rattle.heap.specs.State.{Slot, State, no_slot, slot_at, live, worn, with_since, with_live}
 use Rattle.heap.specs.Calls.{Changed, done, resolve, recycle}
-use Rattle.flow.specs.Function.{Function}
-use Rattle.trace.specs.Places.{handles_of}
-use Rattle.reach.specs.Reach.{Graph, Starts, First, Reached, UntraceableFrom}
-use Rattle.reach.specs.Marking.{State as Marks, marking}
-use Rattle.reach.proofs.Sound.{reached-first, reached-next, reached-ind}
+use Rattle.control_flow.specs.Flow.Function.{Function}
+use Rattle.tracing.specs.Trace.Places.{handles_of}
+use Rattle.reachability.specs.Reach.Reach.{Graph, Starts, First, Reached, UntraceableFrom}
+use Rattle.reachability.specs.Reach.Marking.{State as Marks, marking}
+use Rattle.reachability.proofs.ReachLaws.Sound.{reached-first, reached-next, reached-ind}
 use Rattle.collection.specs.Swept.{goes, dropped, drop_slots, live_size, drop_unmarked, swept}
 use Rattle.collection.specs.Shown.{shown}
 use Rattle.collection.specs.Collected.{found, graph, starts}

@@ -5,7 +5,7 @@ use Rattle.std.proofs.Math.Option.{Option, none, some}
 use Rattle.word.specs.Result.{Result, ok, refused}
 use Rattle.heap.specs.State.{State, slot_at, live}
 use Rattle.heap.specs.Calls.{resolve}
-use Rattle.reach.specs.Reach.{Graph, Starts}
+use Rattle.reachability.specs.Reach.Reach.{Graph, Starts}
 
 -- the slot, where there is one
 abbrev pub found : Result ℕ → Option ℕ

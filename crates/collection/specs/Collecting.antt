@@ -1,12 +1,12 @@
 -- What a collection answers and leaves, by a marking with a queue. What is right of it, by chains,
--- is said in Demand.antt and in crate collect_door. What is refused before it looks at the objects
+-- is said in Demand.antt and in crate yexwalu. What is refused before it looks at the objects
 -- (18, 1, 10, 14) belongs to the front door.
 use Rattle.std.specs.Prelude.{List, ℕ, length}
 use Rattle.std.proofs.Math.Option.{Option, none, some}
 use Rattle.heap.specs.State.{State}
 use Rattle.heap.specs.Calls.{Changed, refuse, done}
-use Rattle.reach.specs.Reach.{Graph, Starts}
-use Rattle.reach.specs.Marking.{State as Marks, marking}
+use Rattle.reachability.specs.Reach.Reach.{Graph, Starts}
+use Rattle.reachability.specs.Reach.Marking.{State as Marks, marking}
 use Rattle.collection.specs.Swept.{swept}
 
 -- untraceable (13), the heap unchanged; or the sweep by the marks

@@ -1,10 +1,10 @@
 -- What is right of a collection's answer (SCOPE, "What a collection keeps"), said by chains of
--- objects (crate `reach`), with no word of marks or worklists.
+-- objects (crate `reachability`), with no word of marks or worklists.
 use Rattle.std.specs.Prelude.{◌≡◌, true, ◌↔◌, ℕ}
 use Rattle.word.specs.Result.{ok}
 use Rattle.heap.specs.State.{State, slot_at, live}
 use Rattle.heap.specs.Calls.{resolve}
-use Rattle.reach.specs.Reach.{Graph, Starts, Reached}
+use Rattle.reachability.specs.Reach.Reach.{Graph, Starts, Reached}
 
 -- h before a collection that succeeds, h' after it
 pub record Survived (G : Graph) (S : Starts) (h h' : State) : Type 0 where

@@ -3,12 +3,12 @@
 -- front door.
 use Rattle.std.specs.Prelude.{Bool, ◌||◌, List, [], ◌∷◌, ◌++◌, ℕ, eqb, length, get_or, filter}
 use Rattle.std.proofs.Math.Option.{Option, none, some}
-use Rattle.ty.specs.Types.{Table}
+use Rattle.type_table.specs.Rows.Types.{Table}
 use Rattle.heap.specs.State.{State}
 use Rattle.heap.specs.Calls.{Changed, refuse}
-use Rattle.flow.specs.Function.{Function}
-use Rattle.flow.specs.Dataflow.{live_row, track}
-use Rattle.addresses.specs.Listed.{slots_of}
+use Rattle.control_flow.specs.Flow.Function.{Function}
+use Rattle.control_flow.specs.Flow.Dataflow.{live_row, track}
+use Rattle.collection.specs.Addresses.Listed.{slots_of}
 use Rattle.collection.specs.Collected.{graph, starts}
 use Rattle.collection.specs.Collecting.{collected}
 use Rattle.collection.specs.Shown.{shown}

@@ -1,13 +1,13 @@
 -- What is right of the joined collection's answer (SCOPE, "Joined collection"), said by chains of
--- objects (crate `reach`) and by walks over the code (crate `flow`), with no word of worklists, bit
+-- objects (crate `reachability`) and by walks over the code (crate `control_flow`), with no word of worklists, bit
 -- rows or dataflow.
 use Rattle.std.specs.Prelude.{◌≡◌, ◌⊎◌, ◌↔◌, List, ℕ, get_or}
 use Rattle.std.proofs.Math.Option.{Option, none, some}
-use Rattle.ty.specs.Types.{Table}
+use Rattle.type_table.specs.Rows.Types.{Table}
 use Rattle.heap.specs.State.{State}
-use Rattle.flow.specs.Function.{Function, Live}
-use Rattle.addresses.specs.Listed.{Listed}
-use Rattle.reach.specs.Reach.{Starts, UntraceableFrom, ◌∈◌}
+use Rattle.control_flow.specs.Flow.Function.{Function, Live}
+use Rattle.collection.specs.Addresses.Listed.{Listed}
+use Rattle.reachability.specs.Reach.Reach.{Starts, UntraceableFrom, ◌∈◌}
 use Rattle.collection.specs.Collected.{graph}
 use Rattle.collection.specs.Shown.{shown}
 

@@ -6,3 +6,4 @@ pub mod Joined
 pub mod JoinedDemand
 pub mod Collecting
 pub mod Inner
+pub mod Addresses

@@ -2,8 +2,8 @@
 use Rattle.std.specs.Prelude.{ℕ, List}
 use Rattle.std.proofs.Math.Option.{Option}
 use Rattle.heap.specs.State.{State, slot_at}
-use Rattle.ty.specs.Types.{Table}
-use Rattle.trace.specs.Places.{handles_of}
+use Rattle.type_table.specs.Rows.Types.{Table}
+use Rattle.tracing.specs.Trace.Places.{handles_of}
 
 -- the handles that slot i shows by its kind, type and visible data; none where it can't be traced
 abbrev pub shown : Table → State → ℕ → Option (List ℕ)

@@ -13,7 +13,7 @@ use Rattle.std.specs.Cmp.Lexicographic.{slice_cmp}
 use Rattle.std.proofs.lemmas.Cmp.{ranked}
 use Rattle.std.proofs.lemmas.Map.Lookups.{exact_unsigned}
 use Rattle.word.proofs.ListLaws.{drop-cons-one}
-use Rattle.alike.specs.Inner.ByTurns.{◌and_then◌}
+use Rattle.reachability.specs.Alike.Inner.ByTurns.{◌and_then◌}
 
 -- ---- one order, and then another
 

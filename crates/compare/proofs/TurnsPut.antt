@@ -12,13 +12,13 @@ use native.Mathlib.Numerals.{add-one}
 use native.Mathlib.Decide.{ℕ_discrete}
 use native.Mathlib.Omega.{arith}
 use Rattle.std.specs.Prelude.{if◌then◌else◌}
-use Rattle.reach.specs.Reach.{◌∈◌}
-use Rattle.reach.proofs.Visiting.{∈-get_or}
-use Rattle.alike.specs.Order.{turn}
+use Rattle.reachability.specs.Reach.Reach.{◌∈◌}
+use Rattle.reachability.proofs.ReachLaws.Visiting.{∈-get_or}
+use Rattle.reachability.specs.Alike.Order.{turn}
 use Rattle.word.specs.Lists.{has}
-use Rattle.alike.specs.Inner.Packed.{Packed, put_turn}
-use Rattle.reach.proofs.Visiting.{has-in, has-not}
-use Rattle.alike.proofs.Packing.{packed-next, packed-turn}
+use Rattle.reachability.specs.Alike.Inner.Packed.{Packed, put_turn}
+use Rattle.reachability.proofs.ReachLaws.Visiting.{has-in, has-not}
+use Rattle.reachability.proofs.AlikeLaws.Packing.{packed-next, packed-turn}
 use Rattle.compare.specs.Inner.Turns.{lows, CanQueue, Raised, CanTurn, Turned}
 
 -- ---- the queue below

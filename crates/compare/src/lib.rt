@@ -1,15 +1,22 @@
+// Two saves compared: which are the same model, and which comes first.
+//
 // What two marked heaps are compared by, short of their objects: the turn at which each object was first met, and the roots as handle places.
 #![tactic(auto)]
 
 ghost use Rattle.std.specs.Prelude.{◌≡◌, ◌≤◌, length};
 ghost use Rattle.std.specs.Ordering.{nat_cmp};
 ghost use Rattle.std.specs.Cmp.Lexicographic.{slice_cmp};
-ghost use Rattle.alike.specs.Inner.ByTurns.{◌and_then◌};
-ghost use Rattle.beside.specs.Inner.Ranks.{met_order};
+ghost use Rattle.reachability.specs.Alike.Inner.ByTurns.{◌and_then◌};
+ghost use Rattle.tracing.specs.Beside.Inner.Ranks.{met_order};
 ghost use Rattle.compare.specs.Inner.Turns.{lows, CanQueue, CanTurn, Raised, Turned};
 
-use beside::Met;
 use std::cmp::Ordering;
+use tracing::beside;
+use tracing::beside::Met;
+
+pub mod heaps; // two checked heaps: marked, then compared by turns
+pub mod objects; // two objects side by side: their numbers, their bytes, one trace
+pub mod save_order; // the order of two heaps with roots of their own, or why there is none (13)
 
 // The upper part of every word becomes n, a turn that none has yet; the lower part keeps the queue.
 fn raise_all(work: &mut [u64], n: usize)

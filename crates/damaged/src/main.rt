@@ -5,9 +5,11 @@
 // and `^` for byte 13.
 #![tactic(auto)]
 
-use page_damage::{count, find, read_damaged, read_everywhere};
+use crate::reading::{count, find, read_damaged, read_everywhere};
 use std::io;
 use std::io::Read;
+
+mod reading; // a page that is damaged at a place, and what reading it is answered
 
 // The first `old` of a page replaced by `new`.
 fn damage(

@@ -15,6 +15,7 @@ ghost use Rattle.heap.specs.Sizes.{sizes_fit};
 ghost use Rattle.heap.specs.Inner.Columns.{CanSplice, Spliced, CanPlace, PlacedIn};
 
 use refusal::Reply;
+use word::memory;
 
 // The numbers of a heap, and how many entries of the slots and of each list are in use.
 #[repr(C)]

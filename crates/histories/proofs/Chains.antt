@@ -7,14 +7,14 @@ use mathlib.Core.Option.{Option, none, some}
 use Prim.Native.Nat.{ℕ, ◌+◌, ◌≤◌}
 use Rattle.word.specs.Ones.{passing}
 use Rattle.word.proofs.Bools.{either, and_both, both-and, true-false}
-use Rattle.ty.specs.Types.{Table}
+use Rattle.type_table.specs.Rows.Types.{Table}
 use Rattle.heap.specs.State.{Slot, State, slot_at, live, last_generation, bit, times}
 use Rattle.heap.specs.Calls.{live_count}
 use Rattle.heap.proofs.Sound.{Sound, live_bit}
 use Rattle.heap.proofs.Counting.{sum, sum-add, sum_same, times-length}
 use Rattle.heap.proofs.Keeping.{live_inside}
-use Rattle.reach.specs.Reach.{Graph, Starts, Reached, ◌∈◌}
-use Rattle.reach.specs.Marking.{State as Marks, marking}
+use Rattle.reachability.specs.Reach.Reach.{Graph, Starts, Reached, ◌∈◌}
+use Rattle.reachability.specs.Reach.Marking.{State as Marks, marking}
 use Rattle.collection.specs.Swept.{goes}
 use Rattle.collection.specs.Shown.{shown}
 use Rattle.collection.specs.Collected.{graph}

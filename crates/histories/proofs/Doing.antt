@@ -15,40 +15,42 @@ use Rattle.heap.specs.Calls.{Changed, edit as edited, write as written, reissue 
 use Rattle.heap.proofs.Sound.{Sound}
 use Rattle.heap.proofs.Storing.{well-stored}
 use Rattle.heap.proofs.Testing.{formed-tested, formed-test}
-use Rattle.heap_calls.specs.Objects.{object_start, object_size}
+use Rattle.heap_ops.specs.HeapCalls.Objects.{object_start, object_size}
 use Rattle.collection.specs.Joined.{joined}
 use Rattle.collect.specs.Collect.{collecting}
-use Rattle.door.specs.HeapCalls.{Test, admitted, whether, heap_tests, zeros, scratch_after, Outcome, outcome_of, calling, Asked as Reply, asked_of, asking as replying, Entry}
+use Rattle.validate.specs.Door.HeapCalls.{Test, admitted, whether, heap_tests, zeros, scratch_after, Outcome, outcome_of, calling, Asked as Reply, asked_of, asking as replying, Entry}
 use Rattle.std.specs.Prelude.{Err, Ok, if◌then◌else◌}
-use Rattle.door.proofs.Entering.{asking-not, asking-ready, calling-ready}
+use Rattle.validate.proofs.DoorLaws.Entering.{asking-not, asking-ready, calling-ready}
 use Rattle.refusal.proofs.Numbers.{never-0}
 use Rattle.word.proofs.ResultLaws.{not-refused}
 use native.Mathlib.Omega.{arith}
 use borrow.Author.Tests.{ne_eqb}
-use Rattle.object_door.specs.ObjectCalls.{allocating, recycling, take_call}
-use Rattle.heap_door.specs.Sealing.{sealing}
-use Rattle.collect_door.specs.Calls.{table_in, tests, Asked, table, frame, pinning, joined_tests, joining}
-use Rattle.traced.specs.Listing.{written_to}
+use Rattle.yexwalu.specs.Objects.ObjectCalls.{take_call}
+use Rattle.heap_ops.specs.Placing.Calls.{allocating, recycling}
+use Rattle.yexwalu.specs.Questions.Sealing.{sealing}
+use Rattle.yexwalu.specs.Collections.Calls.{table_in, tests, Asked, table, frame, pinning, joined_tests, joining}
+use Rattle.tracing.specs.Traced.Listing.{written_to}
 use Rattle.collection.specs.Shown.{shown}
 use Rattle.collection.specs.Collected.{graph, starts}
-use Rattle.wanted.specs.Outcome.{handle_at}
-use Rattle.wanted.proofs.BetweenPasses.{two-answers}
-use Rattle.wanted_door.specs.RootsFor.{listed, root_handles, Given as Wanting, table_in as wanting_table, tests as wanting_tests, roots_call, roots_out}
-use Rattle.wanted_door.specs.CollectWanted.{with_roots, collected_with, wanted_call}
-use Rattle.wanted_door.proofs.KeepingWanted.{front-written, passes}
+use Rattle.min_roots.specs.Wanted.Outcome.{handle_at}
+use Rattle.min_roots.proofs.WantedLaws.BetweenPasses.{two-answers}
+use Rattle.yexwalu.specs.RootLists.RootsFor.{Given as Wanting, table_in as wanting_table, tests as wanting_tests, roots_call, roots_out}
+use Rattle.min_roots.specs.Choosing.Handles.{listed, root_handles}
+use Rattle.yexwalu.specs.RootLists.CollectWanted.{with_roots, collected_with, wanted_call}
+use Rattle.yexwalu.proofs.RootListsLaws.KeepingWanted.{front-written, passes}
 use Rattle.script.specs.Script.{lines, silent, quiet, doing as line_doing, line_does, unless, and_then, run_lines, run_script}
 use Rattle.script.specs.Calls.{Call as LineCall, alloc as alloc_line, take as take_line, seal as seal_line, recycle as recycle_line}
 use Rattle.script.specs.Reading.{call_of}
-use Rattle.run_door.specs.Run.{run_tests}
+use Rattle.yexwalu.specs.Scripts.Run.{run_tests}
 use Rattle.std.specs.declared.cmp.Ordering.{Ordering}
-use Rattle.saves.specs.Saves.{ordering, same_number, order_number, Save, Words, table_in as table_in_words, save_tests, scratch_of, comparing}
+use Rattle.compare.specs.Saves.Saves.{ordering, same_number, order_number, Save, Words, table_in as table_in_words, save_tests, scratch_of, comparing}
 use Rattle.histories.specs.Steps.{Told, Step, alloc, reissue, edit, write, take, free, recycle, seal, collect, ask, nothing as silence, handle, slot, object, told, saying, answering, silently, doing, Value}
 use Rattle.histories.specs.History.{after}
 use Rattle.histories.specs.Calls.{Scratch, Call, alloc_from, reissue as reissue_call, edit as edit_call, write as write_call, take as take_out, free as free_call, recycle as recycle_call, seal as seal_call, collect as collect_call, collect_joined, collect_wanted, counted, roots_in, from_roots, wanted_steps, run, question, leaving, contract, turned, joined_step, line_step, unless_refused, line_steps, steps}
 use Rattle.histories.specs.Promises.{numbers, ended_by, ending, first_told, said_of, Does, CallsDoSteps}
 use Rattle.histories.specs.Questions.{told_by, QuestionsAreCalls, AsksBoth, ComparisonsAreCalls}
 use Rattle.histories.proofs.Histories.{after-grew}
-use Rattle.code.specs.Lent.{function}
+use Rattle.control_flow.specs.Code.Lent.{function}
 use lib.ListN.{length, take as taken}
 use lib.Dec.{leb, eqb}
 

@@ -6,7 +6,7 @@ use Rattle.handle.specs.Handle.{packed, tag_of, index_of, generation_of, resolve
 use Rattle.heap.specs.State.{times}
 use Rattle.heap.specs.Calls.{new, alloc_from, resolve, reissue as reissued, free as freed, recycle as recycled, live_count}
 use Rattle.word.specs.Lists.{rising_from}
-use Rattle.object_door.specs.ObjectCalls.{allocating, recycling}
+use Rattle.heap_ops.specs.Placing.Calls.{allocating, recycling}
 use Rattle.histories.specs.Steps.{Step, alloc, reissue, free, recycle, doing}
 use Rattle.histories.specs.History.{after, issued, total}
 

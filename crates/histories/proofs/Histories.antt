@@ -10,13 +10,13 @@ use Rattle.word.proofs.Bools.{either}
 use Rattle.handle.specs.Handle.{packed, tag_of, index_of, generation_of}
 use Rattle.handle.proofs.HandleLaws.{packed-inj}
 use Rattle.handle.proofs.ResolveLaws.{Resolves as Leads, resolve-ok, resolve-at}
-use Rattle.ty.specs.Types.{Table}
+use Rattle.type_table.specs.Rows.Types.{Table}
 use Rattle.heap.specs.State.{State, slot_at, live, bit}
 use Rattle.heap.specs.Calls.{Changed, done, resolve, live_count}
 use Rattle.heap.proofs.Sound.{Sound}
 use Rattle.heap.proofs.Keeping.{live_inside}
-use Rattle.reach.specs.Reach.{Graph, Starts, ◌∈◌}
-use Rattle.reach.specs.Marking.{State as Marks, marking}
+use Rattle.reachability.specs.Reach.Reach.{Graph, Starts, ◌∈◌}
+use Rattle.reachability.specs.Reach.Marking.{State as Marks, marking}
 use Rattle.collection.specs.Shown.{shown}
 use Rattle.collection.specs.Swept.{swept}
 use Rattle.collection.specs.Demand.{Survived}
@@ -28,7 +28,7 @@ use Rattle.histories.specs.Steps.{Step, alloc, reissue, edit, write, take, free,
 use Rattle.histories.specs.History.{after, handed, issued, Distinct, Resolves, books, if_ok, total, Drops, Lost}
 use Rattle.histories.proofs.Stepping.{age, Fresh, Issued, Stepped, no-issue, alloc_step, reissue-step, edit-step, write_step, take_step, free_step, recycle-step, seal-step, ask-step}
 use Rattle.histories.proofs.Chains.{Older, collected-older, drops-counted, drops-there}
-use Rattle.reach.proofs.Visiting.{∈-cases}
+use Rattle.reachability.proofs.ReachLaws.Visiting.{∈-cases}
 use native.Mathlib.Omega.{arith}
 use lib.ListN.{length}
 

@@ -1,12 +1,12 @@
 -- Where the chains of a joined collection start. Assumes nothing.
 use Rattle.word.proofs.Bools.{and_both}
 use Rattle.heap.specs.Lent.{view}
-use Rattle.flow.proofs.Validity.{parts-valid}
-use Rattle.code.specs.Lent.{function}
-use Rattle.code.proofs.Forms.{formed-parts}
+use Rattle.control_flow.proofs.FlowLaws.Validity.{parts-valid}
+use Rattle.control_flow.specs.Code.Lent.{function}
+use Rattle.control_flow.proofs.CodeLaws.Forms.{formed-parts}
 use Rattle.collection.proofs.Registers.{joined-starts}
-use Rattle.door.proofs.Entering.{all_hold}
-use Rattle.collect_door.specs.Calls.{pinning, coded, joined_tests}
+use Rattle.validate.proofs.DoorLaws.Entering.{all_hold}
+use Rattle.yexwalu.specs.Collections.Calls.{pinning, coded, joined_tests}
 use Rattle.histories.specs.Promises.{JoinedChains}
 
 pub joined-chains : JoinedChains

@@ -6,3 +6,5 @@ pub mod Doing
 pub mod Promised
 pub mod Joining
 pub mod Examples
+pub mod HistoryCallsLaws
+pub mod HeldHistoryLaws

@@ -18,7 +18,7 @@ use Rattle.heap.specs.Calls.{live_count}
 use Rattle.heap.proofs.Sound.{live_bit}
 use Rattle.heap.proofs.Counting.{sum, sum_same, sum-const, sum_first}
 use Rattle.word.specs.Lists.{rising_from}
-use Rattle.reach.specs.Reach.{◌∈◌}
+use Rattle.reachability.specs.Reach.Reach.{◌∈◌}
 
 -- what holds of both choices holds of the choice
 pub pick : {A : Type 0} (Q : A → Type 0) (b : Bool) {x y : A} → (b ≡ true → Q x) → (b ≡ false → Q y) → Q (if b then x else y)

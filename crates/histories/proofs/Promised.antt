@@ -12,8 +12,8 @@ use Rattle.heap.specs.Calls.{new, live_count}
 use Rattle.heap.proofs.Sound.{Sound}
 use Rattle.heap.proofs.Storing.{view-stored}
 use Rattle.heap.proofs.Testing.{formed-tested}
-use Rattle.object_door.specs.Making.{new_call}
-use Rattle.object_door.proofs.Made.{new-formed}
+use Rattle.yexwalu.specs.Objects.Making.{new_call}
+use Rattle.yexwalu.proofs.ObjectsLaws.Made.{new-formed}
 use Rattle.heap.proofs.Storing.{stored-count, stored-room}
 use Rattle.histories.specs.Steps.{Step}
 use Rattle.histories.specs.History.{after, Resolves}

@@ -22,13 +22,13 @@ use Rattle.heap.proofs.Counting.{inside, free-inside, times-member}
 use Rattle.heap.proofs.Keeping.{live_inside, take-sound}
 use Rattle.heap.proofs.Recycled.{recycle-sound}
 use Rattle.word.specs.Lists.{rising}
-use Rattle.heap_calls.proofs.Allocating.{alloc-none, alloc-free, alloc-grow, alloc-full, alloc-sound, grown-at}
-use Rattle.heap_edit.proofs.Cases.{edit-unresolved, edit-full, edit-done, write-dead, write-hidden, write-beyond, write_done, reissue-dead, reissue-worn, reissue-done}
-use Rattle.heap_edit.proofs.Soundness.{edit-sound, write-sound, reissue-sound, seal-sound}
+use Rattle.heap_ops.proofs.HeapCallsLaws.Allocating.{alloc-none, alloc-free, alloc-grow, alloc-full, alloc-sound, grown-at}
+use Rattle.heap_ops.proofs.HeapEditLaws.Cases.{edit-unresolved, edit-full, edit-done, write-dead, write-hidden, write-beyond, write_done, reissue-dead, reissue-worn, reissue-done}
+use Rattle.heap_ops.proofs.HeapEditLaws.Soundness.{edit-sound, write-sound, reissue-sound, seal-sound}
 use Rattle.heap.proofs.LiveSlots.{resolved_live}
-use Rattle.reach.specs.Reach.{◌∈◌}
-use Rattle.reach.proofs.Visiting.{∈-one}
-use Rattle.object_door.specs.ObjectCalls.{is_kind, allocating, recycling}
+use Rattle.reachability.specs.Reach.Reach.{◌∈◌}
+use Rattle.reachability.proofs.ReachLaws.Visiting.{∈-one}
+use Rattle.heap_ops.specs.Placing.Calls.{is_kind, allocating, recycling}
 use Rattle.histories.specs.Steps.{Step, alloc, reissue, edit, write, take, free, recycle, seal, ask, Told, slot, object, answering, issuing, silently, asking, Value}
 use Rattle.histories.specs.History.{handed, books, if_ok}
 use Rattle.histories.proofs.Lists.{pick, live-set, live-push}

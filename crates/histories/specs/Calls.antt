@@ -9,18 +9,20 @@ use Rattle.heap.specs.State.{State}
 use Rattle.heap.specs.Lent.{Lent, view, slot_count, pool_size}
 use Rattle.heap.specs.Calls.{edit as edited, write as written, reissue as reissued, free as freed}
 use Rattle.collection.specs.Joined.{values_of, root_registers, pins_at}
-use Rattle.door.specs.HeapCalls.{Test, admitted, whether, heap_tests, Outcome, outcome_of, heap_call, Asked as Reply, asking as replying}
-use Rattle.object_door.specs.ObjectCalls.{allocating, recycling, take_call}
-use Rattle.heap_door.specs.Sealing.{sealing}
-use Rattle.collect_door.specs.Calls.{Given, table_in, tests, collect_call, Asked, table, frame, pinning, joined_tests, joined_call}
-use Rattle.wanted_door.specs.RootsFor.{Given as Wanting, table_in as wanting_table, tests as wanting_tests, root_handles}
-use Rattle.wanted_door.specs.CollectWanted.{wanted_call}
+use Rattle.validate.specs.Door.HeapCalls.{Test, admitted, whether, heap_tests, Outcome, outcome_of, heap_call, Asked as Reply, asking as replying}
+use Rattle.yexwalu.specs.Objects.ObjectCalls.{take_call}
+use Rattle.heap_ops.specs.Placing.Calls.{allocating, recycling}
+use Rattle.yexwalu.specs.Questions.Sealing.{sealing}
+use Rattle.yexwalu.specs.Collections.Calls.{Given, table_in, tests, collect_call, Asked, table, frame, pinning, joined_tests, joined_call}
+use Rattle.yexwalu.specs.RootLists.RootsFor.{Given as Wanting, table_in as wanting_table, tests as wanting_tests}
+use Rattle.min_roots.specs.Choosing.Handles.{root_handles}
+use Rattle.yexwalu.specs.RootLists.CollectWanted.{wanted_call}
 use Rattle.script.specs.Script.{lines}
 use Rattle.script.specs.Calls.{Call as LineCall, alloc as alloc_line, take as take_line, seal as seal_line, recycle as recycle_line}
 use Rattle.script.specs.Reading.{call_of}
-use Rattle.run_door.specs.Run.{run_tests, run_call}
+use Rattle.yexwalu.specs.Scripts.Run.{run_tests, run_call}
 use Rattle.histories.specs.Steps.{Told, Step, alloc as alloc_step, reissue as reissue_step, edit as edit_step, write as write_step, take as take_step, free as free_step, recycle as recycle_step, seal as seal_step, collect as collect_step, ask, doing, Value}
-use Rattle.code.specs.Lent.{function}
+use Rattle.control_flow.specs.Code.Lent.{function}
 
 -- ---- the calls
 

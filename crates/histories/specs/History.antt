@@ -2,11 +2,11 @@
 -- counted from them.
 use Rattle.std.specs.Prelude.{◌≡◌, true, ◌↔◌, List, [], ◌∷◌, ◌++◌, ℕ, ◌+◌, length, eqb}
 use Rattle.word.specs.Result.{Result, ok, refused}
-use Rattle.ty.specs.Types.{Table}
+use Rattle.type_table.specs.Rows.Types.{Table}
 use Rattle.heap.specs.State.{State, slot_at, live, bit}
 use Rattle.heap.specs.Calls.{resolve}
 use Rattle.word.specs.Lists.{rising}
-use Rattle.reach.specs.Reach.{Starts, Reached, ◌∈◌}
+use Rattle.reachability.specs.Reach.Reach.{Starts, Reached, ◌∈◌}
 use Rattle.collection.specs.Collected.{graph, starts}
 use Rattle.collection.specs.Shown.{shown}
 use Rattle.histories.specs.Steps.{Step, alloc, reissue, edit, write, take, free, recycle, seal, collect, ask, nothing, handle, slot, object, told, doing, Value}
@@ -75,7 +75,7 @@ abbrev pub total : (Books → ℕ) → (S P : ℕ) → List Step → State → �
 total f S P [] h = 0
 total f S P (c ∷ cs) h = if_ok (doing S P c h).answer (f (books c h)) + total f S P cs (doing S P c h).heap
 
--- ---- the unreached that collections drop, by chains from pins, roots and seals (crate reach)
+-- ---- the unreached that collections drop, by chains from pins, roots and seals (crate reachability)
 
 -- so many objects of h no chain from F leads to
 pub record Unreached (T : Table) (F : Starts) (h : State) (n : ℕ) : Type 0 where

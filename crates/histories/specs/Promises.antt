@@ -8,12 +8,12 @@ use Rattle.heap.specs.State.{State}
 use Rattle.heap.specs.Lent.{Lent, stored, view, slot_count, pool_size}
 use Rattle.heap.specs.WellFormed.{well_formed}
 use Rattle.heap.specs.Calls.{live_count}
-use Rattle.heap_calls.specs.Objects.{object_start, object_size}
+use Rattle.heap_ops.specs.HeapCalls.Objects.{object_start, object_size}
 use Rattle.collection.specs.Collected.{starts}
-use Rattle.door.specs.HeapCalls.{admitted, ready}
-use Rattle.collect_door.specs.Calls.{Asked}
-use Rattle.collect_door.specs.Demand.{StartsAt}
-use Rattle.object_door.specs.Making.{new_call}
+use Rattle.validate.specs.Door.HeapCalls.{admitted, ready}
+use Rattle.yexwalu.specs.Collections.Calls.{Asked}
+use Rattle.yexwalu.specs.Collections.Demand.{StartsAt}
+use Rattle.yexwalu.specs.Objects.Making.{new_call}
 use Rattle.histories.specs.Steps.{Step, nothing, handle, slot, object, told, doing, Value}
 use Rattle.histories.specs.History.{Books, after, issued, Distinct, Resolves, total, Lost}
 use Rattle.histories.specs.Calls.{Scratch, Call, alloc_from, reissue, edit, write, take, free, recycle, seal, collect, collect_joined, collect_wanted, run, question, contract, tests_of, joined_roots, joined_pins, steps, Made, left, all_steps}

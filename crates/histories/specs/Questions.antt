@@ -6,9 +6,9 @@ use Rattle.word.specs.Result.{Result, ok, refused}
 use Rattle.refusal.specs.Told.{nothing}
 use Rattle.heap.specs.State.{State}
 use Rattle.heap.specs.Lent.{Lent, view}
-use Rattle.door.specs.HeapCalls.{Test, Asked as Reply, asking}
-use Rattle.saves.specs.Saves.{ordering, same_number, order_number, Save, Words, table_in}
-use Rattle.saves.specs.Saves.{save_tests, scratch_of, same_call, order_call}
+use Rattle.validate.specs.Door.HeapCalls.{Test, Asked as Reply, asking}
+use Rattle.compare.specs.Saves.Saves.{ordering, same_number, order_number, Save, Words, table_in}
+use Rattle.compare.specs.Saves.Saves.{save_tests, scratch_of, same_call, order_call}
 use Rattle.histories.specs.Steps.{Told}
 use Rattle.histories.specs.Calls.{Scratch, Call, question, leaving, contract}
 

@@ -3,10 +3,10 @@
 -- the number of lent slots, P of pool bytes.
 use Rattle.std.specs.Prelude.{List, ℕ}
 use Rattle.word.specs.Result.{Result, ok, refused}
-use Rattle.ty.specs.Types.{Table}
+use Rattle.type_table.specs.Rows.Types.{Table}
 use Rattle.heap.specs.State.{State}
 use Rattle.heap.specs.Calls.{Changed, Object, done, edit as edited, write as written, reissue as reissued, take_into, free as freed, seal as sealed}
-use Rattle.object_door.specs.ObjectCalls.{allocating, recycling}
+use Rattle.heap_ops.specs.Placing.Calls.{allocating, recycling}
 use Rattle.collection.specs.Collected.{graph, starts}
 use Rattle.collection.specs.Collecting.{collected}
 use Rattle.collection.specs.Shown.{shown}

@@ -6,7 +6,7 @@ use Rattle.word.specs.Result.{Result}
 use Rattle.refusal.specs.declared.Answer.{Answer}
 use Rattle.heap.specs.State.{State}
 use Rattle.heap.specs.Lent.{Lent, slot_count, pool_size}
-use Rattle.door.specs.HeapCalls.{Test, heap_tests}
+use Rattle.validate.specs.Door.HeapCalls.{Test, heap_tests}
 use Rattle.histories.specs.Steps.{Told}
 use Rattle.histories.specs.Calls.{Scratch, Call, question, contract}
 use Rattle.histories.specs.Questions.{told_by}

@@ -1,11 +1,17 @@
+// Histories: public calls one after another, and what holds of each history.
+//
 // Histories: public calls on one heap, one after another, and what holds of every history. Each
-// function here has an empty body: its `ensures` is the theorem. Crate `history_calls` makes the
-// public calls, crate `held_history` those without a check.
+// function here has an empty body: its `ensures` is the theorem. Crate `histories` makes the
+// public calls, crate `histories` those without a check.
 
 #![tactic(auto)]
 
 ghost use Rattle.histories.specs.Promises.{NoHandleTwice, NoHandleTwiceFrom, CallsDoSteps, JoinedChains};
 ghost use Rattle.histories.specs.Questions.{QuestionsAreCalls, ComparisonsAreCalls};
+
+pub mod held_history; // the calls without a check, as calls of a history
+// Functions that only make the public calls, by contracts in the words of a history
+pub mod history_calls;
 
 // No handle is given twice, from a new heap, and one that has stopped resolving never resolves
 // again; how many objects live and how many slots there are.

@@ -1,6 +1,6 @@
 -- The laws of the dataflow. Assumes nothing.
-use Rattle.flow.proofs.Fixpoint.{computed}
-use Rattle.roots.proofs.Answers.{registers-live}
+use Rattle.control_flow.proofs.FlowLaws.Fixpoint.{computed}
+use Rattle.liveness.proofs.RootsLaws.Answers.{registers-live}
 use Rattle.laws.specs.LiveMap.{DataflowLive, RegistersLive}
 
 pub dataflow-live : DataflowLive

@@ -1,7 +1,7 @@
 -- The laws of models, their encodings and their order. Assumes nothing.
-use Rattle.alike.proofs.Encoded.{encoded-exactly, pairing-same}
-use Rattle.alike.proofs.FirstMet.{met-reached, met-once}
-use Rattle.alike.proofs.Orders.{less-before, before-less, heap-trans}
+use Rattle.reachability.proofs.AlikeLaws.Encoded.{encoded-exactly, pairing-same}
+use Rattle.reachability.proofs.AlikeLaws.FirstMet.{met-reached, met-once}
+use Rattle.reachability.proofs.AlikeLaws.Orders.{less-before, before-less, heap-trans}
 use Rattle.laws.specs.Models.{EncodedSameExactly, RelatedBy, AnyPairingSame, MetIsReached, MetOnce, LessExactly, ModelOrderTransitive}
 
 pub encoded-same-exactly : EncodedSameExactly

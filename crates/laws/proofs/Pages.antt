@@ -1,6 +1,6 @@
 -- The laws of a page's text. Assumes nothing.
-use Rattle.pages.proofs.Laws.{read-exactly, page-injective, forms-apart}
-use Rattle.pages.proofs.Bound.{planes-longer}
+use Rattle.page_format.proofs.PagesLaws.Laws.{read-exactly, page-injective, forms-apart}
+use Rattle.page_format.proofs.PagesLaws.Bound.{planes-longer}
 use Rattle.laws.specs.Pages.{PageReadExactly, PageOfOne, NamesTellForms, PlanesTakeTwoMore}
 
 pub page-read-exactly : PageReadExactly

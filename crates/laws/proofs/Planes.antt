@@ -1,5 +1,5 @@
 -- The laws of byte planes. Assumes nothing.
-use Rattle.planes.proofs.Laws.{length-planes, restored-planes, planes-restored, planes-injective, planes-at}
+use Rattle.text.proofs.PlanesLaws.Laws.{length-planes, restored-planes, planes-restored, planes-injective, planes-at}
 use Rattle.laws.specs.Planes.{PlanesKeepLength, PlanesUndone, PlanesOfOne, PlanesPlace}
 
 pub planes-keep-length : PlanesKeepLength

@@ -1,7 +1,7 @@
 -- The laws of marking and of a sweep. Assumes nothing.
 use Prim.Native.Nat.{ℕ}
-use Rattle.reach.specs.Reach.{Graph}
-use Rattle.reach.proofs.Sound.{Sized, refused, kept, lost}
+use Rattle.reachability.specs.Reach.Reach.{Graph}
+use Rattle.reachability.proofs.ReachLaws.Sound.{Sized, refused, kept, lost}
 use Rattle.collection.proofs.Demand.{demand}
 use Rattle.collection.proofs.SweptLaws.{swept-epoch, last-logged}
 use Rattle.laws.specs.Reaching.{SlotsBelow, MarkingFails, MarkingMarks, SweepCollects, SweepRaisesEpoch, LastDroppedLogged}

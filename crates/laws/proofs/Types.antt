@@ -4,13 +4,13 @@ use mathlib.Core.Path.{◌≡◌, refl, sym, ap, ◌∙◌, subst}
 use native.Mathlib.Omega.{arith}
 use Rattle.std.specs.Prelude.{Option, Some, None, Ok, Err}
 use Rattle.refusal.specs.declared.Refusal.TheVariants.{Malformed}
-use Rattle.ty.specs.Walks.{size_at}
-use Rattle.ty.proofs.Ranks.{rank-order, rank-differences}
-use Rattle.ty_check.proofs.Sizes.{as_word, at_size, exact}
+use Rattle.type_table.specs.Rows.Walks.{size_at}
+use Rattle.type_table.proofs.RowsLaws.Ranks.{rank-order, rank-differences}
+use Rattle.type_table.proofs.CheckLaws.Sizes.{as_word, at_size, exact}
 use Rattle.layout.specs.Layout.{Lay, layout_at}
 use Rattle.layout.proofs.Levels.{Keeps, levels}
-use Rattle.trace.specs.Places.{places_at}
-use Rattle.places.proofs.Levels.{levels as places-levels}
+use Rattle.tracing.specs.Trace.Places.{places_at}
+use Rattle.tracing.proofs.PlacesLaws.Levels.{levels as places-levels}
 use Rattle.laws.specs.Types.{RankOrder, RankDifferences, in_word, DescriptorSizeInWord, DescriptorSizeExact, LayoutWithMoreLevels, PlacesWithMoreLevels}
 
 pub ranks-ordered : RankOrder

@@ -4,9 +4,9 @@ use mathlib.Core.List.{List}
 use Prim.Native.Nat.{ℕ}
 use Rattle.heap.specs.Lent.{view, slot_count, pool_size}
 use Rattle.heap.proofs.Testing.{formed-tested}
-use Rattle.wanted.specs.Search.{searched}
-use Rattle.wanted.proofs.Collecting.{best, none-serves, best-unique}
-use Rattle.wanted.proofs.Searching.{Found, search-found}
+use Rattle.min_roots.specs.Wanted.Search.{searched}
+use Rattle.min_roots.proofs.WantedLaws.Collecting.{best, none-serves, best-unique}
+use Rattle.min_roots.proofs.WantedLaws.Searching.{Found, search-found}
 use Rattle.laws.specs.WantedRoots.{FoundIsBest, RefusedExactly, BestIsOne, Answers, SearchAnswers}
 
 pub found-is-best : FoundIsBest

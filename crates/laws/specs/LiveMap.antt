@@ -1,9 +1,9 @@
 -- The dataflow against walks: what it gives are the registers that some walk reads before writing.
 use Rattle.std.specs.Prelude.{ℕ, ◌≤◌, ◌<◌, Bool, true, ◌≡◌, ◌↔◌}
-use Rattle.flow.specs.Function.{Function, start, end, Live, LiveList, safepoint}
-use Rattle.flow.specs.Dataflow.{live_before}
-use Rattle.code.specs.Lent.{Lent, function, right}
-use Rattle.roots.specs.Calls.{registers_at}
+use Rattle.control_flow.specs.Flow.Function.{Function, start, end, Live, LiveList, safepoint}
+use Rattle.control_flow.specs.Flow.Dataflow.{live_before}
+use Rattle.control_flow.specs.Code.Lent.{Lent, function, right}
+use Rattle.liveness.specs.Roots.Calls.{registers_at}
 
 -- no instruction is in two blocks
 abbrev pub BlocksApart : Function → Type 0

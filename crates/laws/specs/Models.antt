@@ -2,9 +2,9 @@
 -- lists compared from the front.
 use Rattle.std.specs.Prelude.{ℕ, ◌<◌, List, length, get_or, ◌≡◌, ◌↔◌}
 use Rattle.std.specs.declared.cmp.Ordering.TheVariants.{Less}
-use Rattle.reach.specs.Reach.{◌∈◌}
-use Rattle.alike.specs.Same.{Model, ReachedFrom, Traceable, Pairing, Same, Counted, OneTable, Slots}
-use Rattle.alike.specs.Order.{met, encoding, order, Before, heap_order}
+use Rattle.reachability.specs.Reach.Reach.{◌∈◌}
+use Rattle.reachability.specs.Alike.Same.{Model, ReachedFrom, Traceable, Pairing, Same, Counted, OneTable, Slots}
+use Rattle.reachability.specs.Alike.Order.{met, encoding, order, Before, heap_order}
 
 -- two models of n and of m slots, of one type table, of which all that the roots reach can be
 -- traced

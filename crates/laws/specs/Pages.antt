@@ -3,9 +3,9 @@
 use Rattle.std.specs.Prelude.{ℕ, ◌+◌, Bool, true, false, List, length, ◌≡◌, ◌↔◌}
 use Rattle.std.proofs.Math.Option.{some}
 use Rattle.heap.specs.State.{State}
-use Rattle.pages.specs.Form.{Form, form_of, heap_names, slot_names}
-use Rattle.pages.specs.Page.{page_text, Within, Unsaved}
-use Rattle.pages.specs.Reading.{read_page, saved}
+use Rattle.page_format.specs.Pages.Form.{Form, form_of, heap_names, slot_names}
+use Rattle.page_format.specs.Pages.Page.{page_text, Within, Unsaved}
+use Rattle.page_format.specs.Pages.Reading.{read_page, saved}
 
 -- a text is read as a form and a heap exactly if it is the page, in that form, of that heap
 abbrev pub PageReadExactly : Type 0

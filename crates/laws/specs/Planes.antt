@@ -1,8 +1,8 @@
 -- Byte planes, for words of any width.
 use Rattle.std.specs.Prelude.{ℕ, ◌+◌, ◌*◌, ◌<◌, List, length, get_or, ◌≡◌}
 use Rattle.text.specs.Text.{Bytes}
-use Rattle.planes.specs.Planes.{count, planes, restored}
-use Rattle.planes.specs.Words.{plane_byte}
+use Rattle.text.specs.Planes.Planes.{count, planes, restored}
+use Rattle.text.specs.Planes.Words.{plane_byte}
 
 -- the length is kept
 abbrev pub PlanesKeepLength : Type 0

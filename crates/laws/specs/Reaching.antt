@@ -4,8 +4,8 @@ use Rattle.std.proofs.Math.Option.{Option, none, some}
 use Rattle.word.specs.Result.{ok, refused}
 use Rattle.heap.specs.State.{State}
 use Rattle.heap.specs.Calls.{Changed}
-use Rattle.reach.specs.Reach.{Graph, Starts, Reached, UntraceableFrom}
-use Rattle.reach.specs.Marking.{State as Marking, marking}
+use Rattle.reachability.specs.Reach.Reach.{Graph, Starts, Reached, UntraceableFrom}
+use Rattle.reachability.specs.Reach.Marking.{State as Marking, marking}
 use Rattle.collection.specs.Collected.{graph}
 use Rattle.collection.specs.Collecting.{collected}
 use Rattle.collection.specs.Demand.{Survived}

@@ -1,7 +1,7 @@
 -- A rehearsal on a heap against the plain machine of objects, and the sizes of what it prints
 -- and holds.
 use Rattle.std.specs.Prelude.{ℕ, ◌+◌, ◌^◌, ◌≤◌, ◌<◌, List, [], ◌∷◌, length, ◌≡◌}
-use Rattle.ty.specs.Types.{Table}
+use Rattle.type_table.specs.Rows.Types.{Table}
 use Rattle.rehearsal.specs.Lines.{Line}
 use Rattle.rehearsal.specs.Runs.{Held, starting, after, rehearsed, figures_line, figures_text}
 use Rattle.rehearsal.specs.Machine.{Tells, Right, empty, plain}

@@ -1,15 +1,15 @@
 -- Type tables: ranks of signed numbers, sizes of descriptors in 64 bits, and how deep types nest.
 use Rattle.std.specs.Prelude.{ℕ, ◌+◌, ◌^◌, ◌<◌, ◌≤◌, true, List, length, Option, Some, None, Err, ◌≡◌, ◌↔◌}
 use Rattle.refusal.specs.declared.Refusal.TheVariants.{Malformed}
-use Rattle.ty.specs.Types.{Ty, Table}
-use Rattle.ty.specs.Words.{Word, word_of, above, below, rank_at}
-use Rattle.ty.specs.Walks.{desc_bytes}
-use Rattle.ty.specs.DescSize.{desc_size}
-use Rattle.ty.specs.View.{types_of}
-use Rattle.ty.specs.Check.{table_good}
+use Rattle.type_table.specs.Rows.Types.{Ty, Table}
+use Rattle.type_table.specs.Rows.Words.{Word, word_of, above, below, rank_at}
+use Rattle.type_table.specs.Rows.Walks.{desc_bytes}
+use Rattle.type_table.specs.Rows.DescSize.{desc_size}
+use Rattle.type_table.specs.Rows.View.{types_of}
+use Rattle.type_table.specs.Rows.Check.{table_good}
 use Rattle.layout.specs.Layout.{layout_at}
-use Rattle.trace.specs.Places.{places_at}
-use Rattle.places.specs.StrideZero.{ShortConstants}
+use Rattle.tracing.specs.Trace.Places.{places_at}
+use Rattle.tracing.specs.Places.StrideZero.{ShortConstants}
 
 -- ranks of words of w bits have the order of the signed numbers: each is `above` less `below`
 abbrev pub RankOrder : Type 0

@@ -5,12 +5,12 @@ use Rattle.word.specs.Result.{ok, refused}
 use Rattle.heap.specs.State.{State}
 use Rattle.heap.specs.Lent.{Lent, view}
 use Rattle.heap.specs.WellFormed.{well_formed}
-use Rattle.reach.specs.Reach.{Graph, Starts}
+use Rattle.reachability.specs.Reach.Reach.{Graph, Starts}
 use Rattle.collection.specs.Collected.{graph, starts}
-use Rattle.wanted.specs.Wanted.{Rising, Objects}
-use Rattle.wanted.specs.Outcome.{Outcome, Best}
-use Rattle.wanted.specs.Way.{roots_for}
-use Rattle.wanted.specs.Search.{searched, noted}
+use Rattle.min_roots.specs.Wanted.Wanted.{Rising, Objects}
+use Rattle.min_roots.specs.Wanted.Outcome.{Outcome, Best}
+use Rattle.min_roots.specs.Wanted.Way.{roots_for}
+use Rattle.min_roots.specs.Wanted.Search.{searched, noted}
 
 -- in a well formed heap, whatever its objects show, the slots that are found are the fewest, and
 -- of those the least

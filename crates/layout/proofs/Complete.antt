@@ -5,8 +5,8 @@ use Prim.Native.Nat.{ℕ, suc, ◌+◌, max}
 use native.Mathlib.Omega.{arith}
 use lib.ListN.{length, drop}
 use Rattle.std.specs.Prelude.{Some, None, Ok, Err}
-use Rattle.ty.specs.Types.{Ty, Ty.missing, Ty.int, Ty.physical, Ty.enum, Ty.real, Ty.array, Ty.fields, Ty.access, Ty.file, Ty.protected, Field, Field.field, Table, type_at}
-use Rattle.ty.specs.Words.{word_of, on_word, round_up, Word}
+use Rattle.type_table.specs.Rows.Types.{Ty, Ty.missing, Ty.int, Ty.physical, Ty.enum, Ty.real, Ty.array, Ty.fields, Ty.access, Ty.file, Ty.protected, Field, Field.field, Table, type_at}
+use Rattle.type_table.specs.Rows.Words.{word_of, on_word, round_up, Word}
 use Rattle.layout.specs.Layout.{Lay, on_ok, under, used_by, placed, record_of, layout_by, layout_at, layout_of, on_laid}
 use Rattle.layout.specs.Offsets.{offsets_from, offsets_of, fields_of}
 use Rattle.refusal.specs.declared.Refusal.TheVariants.{TooLarge}

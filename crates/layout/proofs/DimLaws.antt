@@ -6,7 +6,7 @@ use native.Mathlib.Omega.{arith}
 use lib.ListN.{length, take, drop, length-drop}
 use Rattle.std.specs.Prelude.{Some, None, Ok, Err}
 use borrow.Author.Tests.{lt-ltb, le-ltb}
-use Rattle.ty.specs.Words.{word_of, Word}
+use Rattle.type_table.specs.Rows.Words.{word_of, Word}
 use lib.Seq.{take_all}
 use Rattle.layout.specs.Layout.{desc_word, dim_len, dims_of}
 use Rattle.refusal.specs.declared.Refusal.TheVariants.{Malformed, TooLarge}

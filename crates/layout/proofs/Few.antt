@@ -6,10 +6,10 @@ use Rattle.std.specs.Prelude.{Option, Some, None, Ok, Err}
 use Rattle.word.specs.Put.{put}
 use Rattle.word.proofs.PutLaws.{mid-put}
 use Rattle.refusal.specs.declared.Refusal.{Refusal}
-use Rattle.ty.specs.Words.{word_of, round_up, Word}
-use Rattle.ty.specs.View.{fields_from, entry_at}
-use Rattle.ty.specs.declared.Entry.TheVariants.{Record}
-use Rattle.ty.specs.declared.Table.{Table as Lent}
+use Rattle.type_table.specs.Rows.Words.{word_of, round_up, Word}
+use Rattle.type_table.specs.Rows.View.{fields_from, entry_at}
+use Rattle.type_table.specs.declared.rows.Entry.TheVariants.{Record}
+use Rattle.type_table.specs.declared.rows.Table.{Table as Lent}
 use Rattle.layout.specs.Layout.{Lay, placed, layout_at, layout_of}
 use Rattle.layout.specs.Offsets.{offsets_of, listed_in, layout_call}
 use Rattle.layout.specs.Inner.Told.{told}
@@ -18,7 +18,7 @@ use Rattle.layout.specs.declared.Layout.{Layout}
 use Rattle.layout.proofs.LayLaws.{in-record}
 use Rattle.layout.proofs.OffsetLaws.{fields-are, length_fields}
 use Rattle.layout.proofs.Complete.{all_placed}
-use Rattle.ty.specs.Lent.{lent}
+use Rattle.type_table.specs.Rows.Lent.{lent}
 use native.Mathlib.Omega.{arith}
 use lib.ListN.{length, take}
 use lib.Seq.{take-length}

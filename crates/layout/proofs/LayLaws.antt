@@ -6,23 +6,23 @@ use Prim.Native.Nat.{ℕ, suc, ◌+◌, ◌-◌, ◌*◌, ◌/◌, ◌^◌, ◌�
 use Rattle.std.specs.Prelude.{Option, Some, None, Ok, Err, unwrap_or, if◌then◌else◌}
 use Rattle.refusal.specs.declared.Refusal.{Refusal}
 use Rattle.refusal.specs.declared.Refusal.TheVariants.{Malformed, TooLarge}
-use Rattle.ty.specs.Types.{Ty, Ty.missing, Ty.int, Ty.physical, Ty.enum, Ty.real, Ty.array, Ty.fields, Ty.access, Ty.file, Ty.protected, type_at, Const, Const.plain, Const.other, Table, const_at, none}
-use Rattle.ty.specs.Words.{Word}
-use Rattle.ty.specs.Scalars.{scalar_size, elem_size, logic_leaf}
-use Rattle.ty.specs.View.{read_ty, read_entry, entry_at, fields_from, part_at, read_part, types_of, consts_of}
-use Rattle.ty.specs.declared.Entry.{Entry}
-use Rattle.ty.specs.declared.Entry.TheVariants.{Int, Physical, Enum, Real, Array, Record, Access, File, Protected}
-use Rattle.ty.specs.declared.Table.{Table as Lent}
-use Rattle.ty.proofs.Lookup.{type-at, const-at}
-use Rattle.ty.proofs.Ranges.{elem-bare}
-use Rattle.ty.proofs.WalkLaws.{fields-first, fields-last, fields-next}
+use Rattle.type_table.specs.Rows.Types.{Ty, Ty.missing, Ty.int, Ty.physical, Ty.enum, Ty.real, Ty.array, Ty.fields, Ty.access, Ty.file, Ty.protected, type_at, Const, Const.plain, Const.other, Table, const_at, none}
+use Rattle.type_table.specs.Rows.Words.{Word}
+use Rattle.type_table.specs.Rows.Scalars.{scalar_size, elem_size, logic_leaf}
+use Rattle.type_table.specs.Rows.View.{read_ty, read_entry, entry_at, fields_from, part_at, read_part, types_of, consts_of}
+use Rattle.type_table.specs.declared.rows.Entry.{Entry}
+use Rattle.type_table.specs.declared.rows.Entry.TheVariants.{Int, Physical, Enum, Real, Array, Record, Access, File, Protected}
+use Rattle.type_table.specs.declared.rows.Table.{Table as Lent}
+use Rattle.type_table.proofs.RowsLaws.Lookup.{type-at, const-at}
+use Rattle.type_table.proofs.RowsLaws.Ranges.{elem-bare}
+use Rattle.type_table.proofs.RowsLaws.WalkLaws.{fields-first, fields-last, fields-next}
 use Rattle.layout.specs.Layout.{Lay, Dims, dims_of, on_bytes, under, used_by, array_laid, array_of, end_of, placed, record_of, scalar_laid, scalar_layout, layout_by, layout_at}
 use Rattle.layout.specs.Inner.Lent.{scalar_part}
 use Rattle.layout.specs.declared.Layout.{Layout}
 use Rattle.word.proofs.ListLaws.{rest}
 use Rattle.layout.proofs.Within.{used-within, dims-within}
-use Rattle.ty.specs.Lent.{lent}
-use Rattle.ty.specs.Inner.Rows.{bare}
+use Rattle.type_table.specs.Rows.Lent.{lent}
+use Rattle.type_table.specs.Rows.Inner.Rows.{bare}
 use native.Mathlib.Omega.{arith}
 use lib.ListN.{length, take, drop, get_or, length-drop}
 use lib.Dec.{eqb}

@@ -9,9 +9,9 @@ use native.Mathlib.Omega.{arith}
 use lib.ListN.{drop}
 use lib.Dec.{eqb}
 use Rattle.std.specs.Prelude.{Result, Some, None, Ok, Err, unwrap_or, if◌then◌else◌}
-use Rattle.ty.specs.Types.{Ty, Ty.missing, Ty.int, Ty.physical, Ty.enum, Ty.real, Ty.array, Ty.fields, Ty.access, Ty.file, Ty.protected, Field, Field.field, Const, Const.plain, Const.other, Table, type_at, const_at, none}
-use Rattle.ty.specs.Words.{on_word, Word}
-use Rattle.ty.specs.Scalars.{scalar_size, elem_size, logic_leaf}
+use Rattle.type_table.specs.Rows.Types.{Ty, Ty.missing, Ty.int, Ty.physical, Ty.enum, Ty.real, Ty.array, Ty.fields, Ty.access, Ty.file, Ty.protected, Field, Field.field, Const, Const.plain, Const.other, Table, type_at, const_at, none}
+use Rattle.type_table.specs.Rows.Words.{on_word, Word}
+use Rattle.type_table.specs.Rows.Scalars.{scalar_size, elem_size, logic_leaf}
 use Rattle.layout.specs.Layout.{Lay, on_ok, on_bytes, dims_of, under, used_by, placed, end_of, array_of, record_of, array_laid, layout_by, layout_at}
 use Rattle.refusal.specs.declared.Refusal.{Refusal}
 use Rattle.refusal.specs.declared.Refusal.TheVariants.{Malformed, TooLarge}

@@ -8,3 +8,4 @@ pub mod Complete
 pub mod ScalarLaws
 pub mod Few
 pub mod Stops
+pub mod NumbersLaws

@@ -7,20 +7,20 @@ use Rattle.word.specs.Put.{put}
 use Rattle.word.proofs.PutLaws.{put-none, Filling, fill_start, fill-next, fill_stop, fill-length}
 use Rattle.refusal.specs.declared.Refusal.{Refusal}
 use Rattle.refusal.specs.declared.Refusal.TheVariants.{ShortList}
-use Rattle.ty.specs.Types.{Field, Field.field, Table, type_at}
-use Rattle.ty.specs.Words.{word_of, on_word, round_up, Word}
-use Rattle.ty.specs.View.{fields_from, read_ty, read_entry, entry_at, types_of}
-use Rattle.ty.specs.declared.Entry.{Entry}
-use Rattle.ty.specs.declared.Entry.TheVariants.{Int, Physical, Enum, Real, Array, Record, Access, File, Protected}
-use Rattle.ty.specs.declared.Table.{Table as Lent}
-use Rattle.ty.proofs.Lookup.{type-at}
-use Rattle.ty.proofs.WalkLaws.{fields-first, fields-last, fields-next}
+use Rattle.type_table.specs.Rows.Types.{Field, Field.field, Table, type_at}
+use Rattle.type_table.specs.Rows.Words.{word_of, on_word, round_up, Word}
+use Rattle.type_table.specs.Rows.View.{fields_from, read_ty, read_entry, entry_at, types_of}
+use Rattle.type_table.specs.declared.rows.Entry.{Entry}
+use Rattle.type_table.specs.declared.rows.Entry.TheVariants.{Int, Physical, Enum, Real, Array, Record, Access, File, Protected}
+use Rattle.type_table.specs.declared.rows.Table.{Table as Lent}
+use Rattle.type_table.proofs.RowsLaws.Lookup.{type-at}
+use Rattle.type_table.proofs.RowsLaws.WalkLaws.{fields-first, fields-last, fields-next}
 use Rattle.layout.specs.Layout.{Lay, under, used_by, layout_at, layout_of, on_laid}
 use Rattle.layout.specs.Offsets.{offsets_from, offsets_of, fields_of, layout_call}
 use Rattle.layout.specs.Inner.Told.{told}
 use Rattle.layout.specs.declared.Layout.{Layout}
 use Rattle.word.proofs.ListLaws.{rest}
-use Rattle.ty.specs.Lent.{lent}
+use Rattle.type_table.specs.Rows.Lent.{lent}
 use native.Mathlib.Nat.{zero-add}
 use native.Mathlib.Omega.{arith}
 use lib.ListN.{length, take, drop, get_or, set}

@@ -5,14 +5,14 @@ use mathlib.Core.Bool.{Bool, true, false}
 use Prim.Native.Nat.{ℕ, ◌+◌, ◌-◌, ◌*◌, ◌/◌, ◌≤◌, ◌<◌, max}
 use Rattle.std.specs.Prelude.{Some, None, Ok, is_some, IsSome, if◌then◌else◌}
 use Rattle.word.specs.Num.{align_up}
-use Rattle.ty.specs.Types.{Ty, Ty.missing, Ty.int, Ty.physical, Ty.enum, Ty.real, Ty.array, Ty.fields, Ty.access, Ty.file, Ty.protected, type_at, none}
-use Rattle.ty.specs.Words.{word_of, round_up, Word}
-use Rattle.ty.specs.Scalars.{scalar_size}
-use Rattle.ty.specs.View.{fields_from, entry_at}
-use Rattle.ty.specs.declared.Entry.TheVariants.{Record}
-use Rattle.ty.specs.declared.Table.{Table as Lent}
-use Rattle.ty.proofs.Laws.{word-is}
-use Rattle.ty.proofs.Ranges.{record-within}
+use Rattle.type_table.specs.Rows.Types.{Ty, Ty.missing, Ty.int, Ty.physical, Ty.enum, Ty.real, Ty.array, Ty.fields, Ty.access, Ty.file, Ty.protected, type_at, none}
+use Rattle.type_table.specs.Rows.Words.{word_of, round_up, Word}
+use Rattle.type_table.specs.Rows.Scalars.{scalar_size}
+use Rattle.type_table.specs.Rows.View.{fields_from, entry_at}
+use Rattle.type_table.specs.declared.rows.Entry.TheVariants.{Record}
+use Rattle.type_table.specs.declared.rows.Table.{Table as Lent}
+use Rattle.type_table.proofs.RowsLaws.Laws.{word-is}
+use Rattle.type_table.proofs.RowsLaws.Ranges.{record-within}
 use Rattle.layout.specs.Layout.{placed, record_of, end_of, scalar_layout, layout_at, layout_of}
 use Rattle.layout.specs.Offsets.{offsets_of, layout_call, written_by}
 use Rattle.layout.specs.Inner.Told.{told}
@@ -20,7 +20,7 @@ use Rattle.layout.specs.Inner.Lent.{scalar_part, record_in, ScalarFields, Scalar
 use Rattle.layout.specs.declared.Layout.{Layout}
 use Rattle.layout.proofs.LayLaws.{below-scalar, in-record, record-first, record-last, record-more}
 use Rattle.layout.proofs.OffsetLaws.{Writing, writing_start, writing-same, writing-place, writing-stop, writing-next, off-last, off-more, fields-are, length_fields}
-use Rattle.ty.specs.Lent.{lent}
+use Rattle.type_table.specs.Rows.Lent.{lent}
 use native.Mathlib.Nat.{div-add-mod', le-max_right, max-le}
 use native.Mathlib.Omega.{arith}
 use lib.ListN.{length, get_or, set}

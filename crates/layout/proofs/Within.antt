@@ -7,11 +7,11 @@ use native.Mathlib.Omega.{arith}
 use lib.ListN.{length, drop, length-drop}
 use lib.Dec.{ltb, eqb}
 use borrow.Author.Tests.{ltb-false}
-use Rattle.ty.specs.Types.{Ty, Ty.missing, Ty.int, Ty.physical, Ty.enum, Ty.real, Ty.array, Ty.fields, Ty.access, Ty.file, Ty.protected, Field, Field.field, Table, type_at, const_at, none}
+use Rattle.type_table.specs.Rows.Types.{Ty, Ty.missing, Ty.int, Ty.physical, Ty.enum, Ty.real, Ty.array, Ty.fields, Ty.access, Ty.file, Ty.protected, Field, Field.field, Table, type_at, const_at, none}
 use Rattle.std.specs.Prelude.{Result, Option, Some, None, Ok, Err, unwrap_or, if◌then◌else◌}
-use Rattle.ty.specs.Words.{word_of, on_word, round_up, Word}
+use Rattle.type_table.specs.Rows.Words.{word_of, on_word, round_up, Word}
 use Rattle.layout.specs.Layout.{Lay, Dims, desc_word, dim_len, dims_of, on_ok, on_bytes, under, used_by, array_laid, array_of, end_of, placed, record_of, scalar_laid, layout_by, layout_at}
-use Rattle.ty.specs.Scalars.{scalar_size, elem_size, logic_leaf}
+use Rattle.type_table.specs.Rows.Scalars.{scalar_size, elem_size, logic_leaf}
 use Rattle.refusal.specs.declared.Refusal.{Refusal}
 use Rattle.refusal.specs.declared.Refusal.TheVariants.{Malformed, TooLarge}
 use Rattle.layout.specs.declared.Layout.{Layout}

@@ -4,9 +4,9 @@ use Rattle.std.specs.Prelude.{ℕ, zero, suc, ◌+◌, ◌-◌, ◌*◌, ◌/◌
 use Rattle.word.specs.Le.{le}
 use Rattle.refusal.specs.declared.Refusal.{Refusal}
 use Rattle.refusal.specs.declared.Refusal.TheVariants.{Malformed, TooLarge}
-use Rattle.ty.specs.Types.{Ty, Ty.array, Ty.fields, Field, Field.field, Const, Const.plain, Const.other, Table, type_at, const_at, none}
-use Rattle.ty.specs.Words.{Word, word_of, on_word, rank, round_up}
-use Rattle.ty.specs.Scalars.{scalar_size, elem_size, logic_leaf}
+use Rattle.type_table.specs.Rows.Types.{Ty, Ty.array, Ty.fields, Field, Field.field, Const, Const.plain, Const.other, Table, type_at, const_at, none}
+use Rattle.type_table.specs.Rows.Words.{Word, word_of, on_word, rank, round_up}
+use Rattle.type_table.specs.Rows.Scalars.{scalar_size, elem_size, logic_leaf}
 use Rattle.layout.specs.declared.Layout.{Layout}
 
 -- a layout, or why there is none
@@ -31,7 +31,7 @@ abbrev pub desc_word : List ℕ → ℕ → ℕ
 desc_word d i = le (take 8 (drop i d))
 
 -- Positions from left to right (direction 0), or from left down to right (1). The words are signed: their ranks are compared and subtracted, which is the
--- same, since both ends are moved up by 2^63 (crate ty, Words).
+-- same, since both ends are moved up by 2^63 (crate type_table, Words).
 unfoldable pub dim_len : ℕ → ℕ → ℕ → ℕ
 dim_len l r dir = if eqb dir 1 then (rank l + 1 - rank r) else (rank r + 1 - rank l)
 

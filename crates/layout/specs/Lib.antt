@@ -2,3 +2,4 @@
 pub mod Layout
 pub mod Offsets
 pub mod Inner
+pub mod Numbers

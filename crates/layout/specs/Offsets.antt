@@ -3,8 +3,8 @@
 use Rattle.std.specs.Prelude.{ℕ, ◌+◌, List, [], ◌∷◌, leb, length, drop, Ok, Err, if◌then◌else◌}
 use Rattle.word.specs.Put.{put}
 use Rattle.word.specs.Result.{Result, ok, refused}
-use Rattle.ty.specs.Types.{Ty, Ty.fields, Field, Field.field, Table, type_at}
-use Rattle.ty.specs.Words.{word_of, on_word, round_up}
+use Rattle.type_table.specs.Rows.Types.{Ty, Ty.fields, Field, Field.field, Table, type_at}
+use Rattle.type_table.specs.Rows.Words.{word_of, on_word, round_up}
 use Rattle.refusal.specs.Told.{number_of}
 use Rattle.layout.specs.Layout.{Lay, under, used_by, layout_at, layout_of, on_laid}
 use Rattle.layout.specs.declared.Layout.{Layout}

@@ -4,18 +4,22 @@
 ghost use Rattle.std.specs.Prelude.{◌≡◌, true, length, Ok, Some};
 ghost use Prim.Native.Nat.{◌+◌, ◌-◌, ◌*◌, ◌/◌, ◌≤◌, max};
 ghost use Rattle.word.specs.Put.{put};
-ghost use Rattle.ty.specs.Types.{type_at};
-ghost use Rattle.ty.specs.Words.{word_of, round_up};
-ghost use Rattle.ty.specs.Scalars.{scalar_size, elem_size};
+ghost use Rattle.type_table.specs.Rows.Types.{type_at};
+ghost use Rattle.type_table.specs.Rows.Words.{word_of, round_up};
+ghost use Rattle.type_table.specs.Rows.Scalars.{scalar_size, elem_size};
 ghost use Rattle.layout.specs.Layout.{dim_len, dims_of, used_by, array_laid, placed, end_of, scalar_laid, scalar_layout};
 ghost use Rattle.layout.specs.Offsets.{offsets_of, listed_in, layout_call, written_by};
 ghost use Rattle.layout.specs.Inner.Told.{told};
 ghost use Rattle.layout.specs.Inner.Lent.{scalar_part, type_laid, part_laid, array_in, record_in, offsets_in, ScalarFields, ScalarRecord, ScalarsLaid, FewFields, FieldsListed};
-ghost use Rattle.ty.specs.Lent.{lent};
-ghost use Rattle.ty.specs.Inner.Rows.{bare};
+ghost use Rattle.type_table.specs.Rows.Lent.{lent};
+ghost use Rattle.type_table.specs.Rows.Inner.Rows.{bare};
 
 use refusal::Refusal;
-use ty::{Entry, NO_CONST, Table};
+use type_table::rows;
+use type_table::rows::{Entry, NO_CONST, Table};
+use word::memory;
+
+pub mod numbers; // a layout, and a descriptor's size, as a call tells them
 
 // How a value is laid out: its bytes, where it may start, how far apart an array's elements are, how many there are, and how many bytes of the descriptor said so.
 #[derive(Clone, Copy)]
@@ -34,15 +38,15 @@ fn span(lo: u64, hi: u64) -> Option<u64>
     if hi < lo {
         return Some(0);
     }
-    ty::sum(hi - lo, 1)
+    rows::sum(hi - lo, 1)
 }
 
 // The length of one dimension. 2^64 is past a word.
 pub fn dim_len(left: u64, right: u64, dir: u64) -> Option<u64>
     ensures { result ≡ word_of (dim_len left right dir) }
 {
-    let l = ty::rank_of(left);
-    let r = ty::rank_of(right);
+    let l = rows::rank_of(left);
+    let r = rows::rank_of(right);
     if dir == 1 { span(r, l) } else { span(l, r) }
 }
 
@@ -63,7 +67,7 @@ pub fn dims_count(d: &[u8], dims: u64) -> Result<u64, Refusal>
             return Err(Refusal::Malformed);
         }
         let l = dim_len(left, right, dir).ok_or(Refusal::TooLarge)?;
-        n = ty::product(n, l).ok_or(Refusal::TooLarge)?;
+        n = rows::product(n, l).ok_or(Refusal::TooLarge)?;
         rest = &rest[24..];
     }
     Ok(n)
@@ -81,8 +85,8 @@ fn array_laid(
     ensures { result ≡ array_laid logic n size align count used }
 {
     if logic == 0 {
-        let stride = ty::align_up(size, align).ok_or(Refusal::TooLarge)?;
-        let whole = ty::product(stride, n).ok_or(Refusal::TooLarge)?;
+        let stride = rows::align_up(size, align).ok_or(Refusal::TooLarge)?;
+        let whole = rows::product(stride, n).ok_or(Refusal::TooLarge)?;
         return Ok(Layout {
             size: whole,
             align,
@@ -91,7 +95,7 @@ fn array_laid(
             used,
         });
     }
-    let leaves = ty::product(n, count).ok_or(Refusal::TooLarge)?;
+    let leaves = rows::product(n, count).ok_or(Refusal::TooLarge)?;
     Ok(Layout {
         size: leaves.div_ceil(64) * 32,
         align: 8,
@@ -105,8 +109,8 @@ fn array_laid(
 pub fn place(off: u64, align: u64, size: u64) -> Option<u64>
     ensures { result ≡ placed off align size }
 {
-    let o = ty::align_up(off, align)?;
-    ty::sum(o, size)
+    let o = rows::align_up(off, align)?;
+    rows::sum(o, size)
 }
 
 // What a part with the constant c takes of the descriptor.
@@ -120,7 +124,7 @@ pub fn used_by(c: u64, u: usize) -> usize
 pub fn record_end(off: u64, align: u64, used: usize) -> Result<Layout, Refusal>
     ensures { result ≡ end_of off align used }
 {
-    let size = ty::align_up(off, align).ok_or(Refusal::TooLarge)?;
+    let size = rows::align_up(off, align).ok_or(Refusal::TooLarge)?;
     Ok(Layout {
         size,
         align,
@@ -147,7 +151,7 @@ fn scalar_layout(n: u64) -> Layout
 fn scalar_laid(e: Entry) -> Result<Layout, Refusal>
     ensures { result ≡ scalar_laid (scalar_size (bare e)) }
 {
-    let n = ty::scalar_size(e).ok_or(Refusal::Malformed)?;
+    let n = rows::scalar_size(e).ok_or(Refusal::Malformed)?;
     Ok(scalar_layout(n))
 }
 
@@ -159,7 +163,7 @@ pub fn scalar_bytes(table: &Table, t: u64, c: u64) -> Option<u64>
         return None;
     }
     let e = table.ty_at(t)?;
-    ty::scalar_size(e)
+    rows::scalar_size(e)
 }
 
 // The size of a scalar of type t as an array element.
@@ -167,7 +171,7 @@ fn elem_bytes(table: &Table, t: u64) -> Option<u64>
     ensures { result ≡ elem_size (type_at (lent table.now).types t) }
 {
     let e = table.ty_at(t)?;
-    ty::elem_size(e)
+    rows::elem_size(e)
 }
 
 // The layout of type t, whose depth is 64 less left.
@@ -297,10 +301,10 @@ fn write_offsets(table: &Table, first: usize, count: usize, desc: &[u8], out: &m
         let Ok(l) = layout_field(table, t, c, &desc[used..], 64) else {
             return;
         };
-        let Some(o) = ty::align_up(off, l.align) else {
+        let Some(o) = rows::align_up(off, l.align) else {
             return;
         };
-        let Some(e) = ty::sum(o, l.size) else {
+        let Some(e) = rows::sum(o, l.size) else {
             return;
         };
         out[i] = o;
@@ -342,7 +346,7 @@ fn padded(x: u64, a: u64) -> u64
     requires { (x ≤ 4294967296) × (a ≤ 8) }
     ensures { (result ≡ round_up x a) × (result ≤ x + 8) }
 {
-    ty::align_up(x, a).unwrap()
+    rows::align_up(x, a).unwrap()
 }
 
 // The layout of such a record, with the offsets of its fields in the lent list: nothing can fail, so one walk does both.
@@ -411,9 +415,9 @@ fn layout_listed(
         let t = table.fields[k] as u64;
         let c = table.fields[k + 1] as u64;
         let l = layout_field(table, t, c, &desc[used..], 64)?;
-        let o = ty::align_up(end, l.align).ok_or(Refusal::TooLarge)?;
+        let o = rows::align_up(end, l.align).ok_or(Refusal::TooLarge)?;
         out[i] = o;
-        end = ty::sum(o, l.size).ok_or(Refusal::TooLarge)?;
+        end = rows::sum(o, l.size).ok_or(Refusal::TooLarge)?;
         align = align.max(l.align);
         used += used_by(c, l.used);
     }

@@ -6,12 +6,12 @@ use mathlib.Core.List.{List}
 use Prim.Native.Nat.{ℕ, ◌+◌, ◌-◌, ◌*◌, ◌/◌, ◌%◌, ◌≤◌, ◌<◌}
 use Rattle.word.specs.Inner.Bit.{bit}
 use Rattle.word.proofs.BitLaws.{bit-of-zero}
-use Rattle.flow.specs.Dataflow.{back, killed, gen, kill}
+use Rattle.control_flow.specs.Flow.Dataflow.{back, killed, gen, kill}
 use Rattle.word.proofs.Bools.{or_left}
-use Rattle.flow.proofs.Laws.{step-sound}
-use Rattle.code.specs.Inner.Columns.{seen}
+use Rattle.control_flow.proofs.FlowLaws.Laws.{step-sound}
+use Rattle.control_flow.specs.Code.Inner.Columns.{seen}
 use Rattle.liveness.specs.Inner.Scratch.{Outside, cell, live_at, Begun, Built}
-use Rattle.code.proofs.Views.{start-view, end-view}
+use Rattle.control_flow.proofs.CodeLaws.Views.{start-view, end-view}
 use Rattle.liveness.proofs.Scratch.{block-fits, cell-before, cell-after, live_of, live-not, or-false}
 use native.Mathlib.Omega.{arith}
 use native.Mathlib.Numerals.{add-one}

@@ -12,8 +12,8 @@ use borrow.Author.Tests.{le-ltb}
 use lib.Seq.{get_or-set_same, get_or-set_other}
 use Rattle.std.specs.Prelude.{if◌then◌else◌}
 use Rattle.word.specs.Lists.{tabulate}
-use Rattle.flow.specs.Function.{first_at}
-use Rattle.code.specs.View.{block_at}
+use Rattle.control_flow.specs.Flow.Function.{first_at}
+use Rattle.control_flow.specs.Code.View.{block_at}
 use Rattle.liveness.specs.Inner.Scratch.{one_below}
 use Rattle.liveness.specs.Inner.Chains.{First, Keyed, Bucketed, Chains}
 use Rattle.liveness.proofs.Scratch.{Firsts, firsts-none, firsts-found, firsts-empty, firsts-other, firsts-end}

@@ -12,9 +12,9 @@ use borrow.Rule.Slice.PartMut.{mid_len}
 use Rattle.word.specs.Ones.{keep, passing}
 use Rattle.word.proofs.BitLaws.{order}
 use Rattle.word.proofs.Bools.{or_left}
-use Rattle.rows.specs.Inner.Row.{bit_in, part, Part, Stepped, listed}
-use Rattle.rows.proofs.RowLaws.{from-word}
-use Rattle.rows.proofs.PartLaws.{bit_in-within, part-inside, part-outside}
+use Rattle.bitset.specs.Rows.Inner.Row.{bit_in, part, Part, Stepped, listed}
+use Rattle.bitset.proofs.RowsLaws.RowLaws.{from-word}
+use Rattle.bitset.proofs.RowsLaws.PartLaws.{bit_in-within, part-inside, part-outside}
 
 -- ---- how many pass: what a loop that only adds bits counts up by
 

@@ -5,3 +5,6 @@ pub mod Growth
 pub mod Steps
 pub mod Passes
 pub mod Builds
+pub mod TransferLaws
+pub mod RootsLaws
+pub mod RootMapLaws

@@ -7,12 +7,12 @@ use Prim.Native.Nat.{ℕ, ◌+◌, ◌-◌, ◌*◌, ◌≤◌, ◌<◌}
 use native.Mathlib.Omega.{arith}
 use native.Mathlib.Decide.{ℕ_discrete, dec_lt}
 use lib.ListN.{length}
-use Rattle.flow.specs.Function.{Function, start, end, Live}
-use Rattle.flow.specs.Dataflow.{gen, kill, out, into, live_in}
+use Rattle.control_flow.specs.Flow.Function.{Function, start, end, Live}
+use Rattle.control_flow.specs.Flow.Dataflow.{gen, kill, out, into, live_in}
 use Rattle.word.proofs.Bools.{or_cases, or_left, or_right}
-use Rattle.flow.proofs.Laws.{step-sound, Disjoint}
-use Rattle.flow.proofs.Fixpoint.{fixpoint-is}
-use Rattle.code.specs.Inner.Columns.{seen}
+use Rattle.control_flow.proofs.FlowLaws.Laws.{step-sound, Disjoint}
+use Rattle.control_flow.proofs.FlowLaws.Fixpoint.{fixpoint-is}
+use Rattle.control_flow.specs.Code.Inner.Columns.{seen}
 use Rattle.liveness.specs.Inner.Scratch.{Outside, cell, live_at, set_bits, turn_of, Rows, Pass, Solved, Fixed}
 use Rattle.liveness.proofs.Scratch.{blocks-apart, cell-before, cell-after, live_of, live-not, live-after, out-grows}
 use Rattle.liveness.proofs.Steps.{Met, bits-grow}

@@ -10,15 +10,15 @@ use Rattle.word.proofs.BitLaws.{bit-or}
 use Rattle.word.specs.Lists.{tabulate}
 use Rattle.word.proofs.ListLaws.{length-tabulate, get_d_tabulate}
 use Rattle.word.proofs.Bools.{both-and, or_cases, or_left, or_right}
-use Rattle.rows.specs.Inner.Row.{bit_in}
-use Rattle.rows.proofs.RowLaws.{or_swap as or_comm}
-use Rattle.flow.specs.Function.{Function, Instruction, Block, inst, start, end, existing, first_at, exits, successors}
-use Rattle.flow.specs.Dataflow.{out}
+use Rattle.bitset.specs.Rows.Inner.Row.{bit_in}
+use Rattle.bitset.proofs.RowsLaws.RowLaws.{or_swap as or_comm}
+use Rattle.control_flow.specs.Flow.Function.{Function, Instruction, Block, inst, start, end, existing, first_at, exits, successors}
+use Rattle.control_flow.specs.Flow.Dataflow.{out}
 use Rattle.std.specs.List.{list_any}
-use Rattle.code.specs.View.{list_at, block_at}
-use Rattle.code.specs.Inner.Columns.{seen, Columns}
+use Rattle.control_flow.specs.Code.View.{list_at, block_at}
+use Rattle.control_flow.specs.Code.Inner.Columns.{seen, Columns}
 use Rattle.liveness.specs.Inner.Scratch.{Outside, cell, live_at, one_below}
-use Rattle.code.proofs.Views.{start-view, inst-seen, end-view, list-next, blocks-view}
+use Rattle.control_flow.proofs.CodeLaws.Views.{start-view, inst-seen, end-view, list-next, blocks-view}
 use native.Mathlib.Omega.{arith}
 use native.Mathlib.Numerals.{add-one}
 use native.Mathlib.Decide.{ℕ_discrete, dec_lt}

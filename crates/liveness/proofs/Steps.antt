@@ -7,8 +7,8 @@ use mathlib.Core.List.{List}
 use Prim.Native.Nat.{ℕ, ◌+◌, ◌-◌, ◌*◌, ◌/◌, ◌%◌, ◌≤◌, ◌<◌}
 use Rattle.word.specs.Inner.Bit.{bit}
 use Rattle.word.specs.Ones.{passing}
-use Rattle.rows.specs.Inner.Row.{bit_in, part, Part, SteppedAt, listed}
-use Rattle.rows.proofs.PartLaws.{bit_in-within}
+use Rattle.bitset.specs.Rows.Inner.Row.{bit_in, part, Part, SteppedAt, listed}
+use Rattle.bitset.proofs.RowsLaws.PartLaws.{bit_in-within}
 use Rattle.liveness.proofs.Growth.{passing-grows, stepped-more}
 use Rattle.liveness.specs.Inner.Scratch.{Outside, cell, set_bits}
 use native.Mathlib.Nat.{mod-lt}

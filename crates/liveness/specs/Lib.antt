@@ -1,2 +1,4 @@
 -- What the inner functions ensure of the scratch.
 pub mod Inner
+pub mod Roots
+pub mod RootMap

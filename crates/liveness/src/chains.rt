@@ -3,7 +3,7 @@
 ghost use Rattle.std.specs.Prelude.{◌+◌, ◌*◌, ◌≤◌, ◌<◌};
 ghost use Rattle.liveness.specs.Inner.Chains.{First, Keyed, Chains};
 
-use code::Blocks;
+use control_flow::code::Blocks;
 
 // The end of a chain. Its two bytes are equal, so that an array of it is filled as bytes are, in half the time.
 pub const NO_BLOCK: u16 = u16::MAX;

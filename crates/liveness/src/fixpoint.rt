@@ -1,18 +1,18 @@
 // The rows of all blocks in one scratch, three a block: live-in, kill and live-out; and the passes
 // to the least fixpoint.
 ghost use Rattle.std.specs.Prelude.{◌≡◌, ◌⊎◌, Bool, ◌||◌, List, ℕ, ◌+◌, ◌-◌, ◌*◌, ◌≤◌, ◌<◌, length, get_or};
-ghost use Rattle.flow.specs.Function.{existing};
-ghost use Rattle.flow.specs.Dataflow.{back, killed, out};
-ghost use Rattle.code.specs.Inner.Plans.{part_seen, all_seen, tested};
+ghost use Rattle.control_flow.specs.Flow.Function.{existing};
+ghost use Rattle.control_flow.specs.Flow.Dataflow.{back, killed, out};
+ghost use Rattle.control_flow.specs.Code.Inner.Plans.{part_seen, all_seen, tested};
 ghost use Rattle.liveness.specs.Inner.Scratch.{Outside, cell, live_at, turn_of, Pass, Solved, Fixed};
 ghost use Rattle.liveness.specs.Inner.Plans.{live_out, walk_row, Room, StartChains, BegunIn, BuiltIn};
 ghost use Rattle.std.specs.List.{list_any};
-ghost use Rattle.rows.specs.Inner.Row.{SteppedAt};
+ghost use Rattle.bitset.specs.Rows.Inner.Row.{SteppedAt};
 
 use crate::chains::{BlockChains, NO_BLOCK};
-use code::{Flow, Plan, Registers};
-use rows::step_block;
-use transfer::{back_row, kill_row};
+use crate::transfer::{back_row, kill_row};
+use bitset::rows::step_block;
+use control_flow::code::{Flow, Plan, Registers};
 
 // The row at `at`, lent on to be written, goes back over the instructions from..to.
 pub fn back_at(

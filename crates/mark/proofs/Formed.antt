@@ -28,10 +28,10 @@ use Rattle.heap.proofs.Storing.{column-any, get_or-pad-past}
 use Rattle.heap.proofs.Changing.{Known, known}
 use Rattle.heap.proofs.Testing.{formed-tested}
 use Rattle.heap.proofs.Runs.{wide_room}
-use Rattle.ty.specs.Types.{Table}
-use Rattle.trace.specs.Places.{handles_of}
-use Rattle.trace.specs.Inner.Emit.{resolve_in}
-use Rattle.reach.specs.Marking.{marking}
+use Rattle.type_table.specs.Rows.Types.{Table}
+use Rattle.tracing.specs.Trace.Places.{handles_of}
+use Rattle.tracing.specs.Trace.Inner.Emit.{resolve_in}
+use Rattle.reachability.specs.Reach.Marking.{marking}
 use Rattle.collection.specs.Collected.{found, graph}
 use Rattle.collection.specs.Shown.{shown}
 use Rattle.mark.specs.Inner.Graph.{shown_in, graph_in, held_in, leads_to, Fit}

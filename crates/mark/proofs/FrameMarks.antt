@@ -6,18 +6,18 @@ use mathlib.Core.List.{List, ◌++◌, append_assoc}
 use native.Mathlib.Nat.{sub-zero}
 use native.Mathlib.Omega.{arith}
 use Rattle.std.specs.Prelude.{Some, None}
-use Rattle.ty.specs.Types.{Table}
-use Rattle.trace.specs.Inner.Emit.{raw_of, into, resolve_in, emitting, told as told_trace, InUse}
-use Rattle.trace.specs.declared.Sink.TheVariants.{Work}
-use Rattle.reach.specs.Reach.{Graph}
-use Rattle.reach.specs.Marking.{State, follow_all, pin_all, drained}
+use Rattle.type_table.specs.Rows.Types.{Table}
+use Rattle.tracing.specs.Trace.Inner.Emit.{raw_of, into, resolve_in, emitting, told as told_trace, InUse}
+use Rattle.tracing.specs.declared.trace.Sink.TheVariants.{Work}
+use Rattle.reachability.specs.Reach.Reach.{Graph}
+use Rattle.reachability.specs.Reach.Marking.{State, follow_all, pin_all, drained}
 use Rattle.mark.specs.Inner.Graph.{leads_to, graph_in, held_in}
 use Rattle.mark.specs.Inner.Scratch.{state_of, Scratch, Holds, following, Traces, seeded_from}
 use Rattle.mark.proofs.TracedIntoQueue.{traces, follows-append}
 use Rattle.mark.proofs.ResolvedInside.{resolves-in}
 use Rattle.mark.specs.Inner.Joining.{in_use, taking, joined_from}
-use Rattle.addresses.specs.Listed.{slots_of}
-use Rattle.addresses.proofs.Listing.{slots-append}
+use Rattle.collection.specs.Addresses.Listed.{slots_of}
+use Rattle.collection.proofs.AddressesLaws.Listing.{slots-append}
 use Rattle.mark.specs.declared.queue.Queue.{Queue}
 use Rattle.mark.specs.Inner.Queues.{state, Becomes}
 use Rattle.mark.proofs.States.{then-same}

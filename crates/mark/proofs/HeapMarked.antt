@@ -6,7 +6,7 @@ use mathlib.Core.Option.{Option, none, some}
 use mathlib.Core.List.{List, ◌++◌}
 use lib.ListN.{length, take, drop}
 use native.Mathlib.Omega.{arith}
-use Rattle.trace.specs.Inner.Emit.{InUse}
+use Rattle.tracing.specs.Trace.Inner.Emit.{InUse}
 use Rattle.std.specs.Prelude.{Some, None}
 use Rattle.word.specs.Result.{ok, refused}
 use Rattle.word.specs.Run.{run}
@@ -16,8 +16,8 @@ use Rattle.heap.specs.Lent.{lent, view}
 use Rattle.heap.specs.WellFormed.{well_formed}
 use Rattle.heap.specs.Inner.Seen.{state}
 use Rattle.heap.specs.declared.view.View.{View}
-use Rattle.ty.specs.Types.{Table}
-use Rattle.reach.specs.Marking.{State, drained}
+use Rattle.type_table.specs.Rows.Types.{Table}
+use Rattle.reachability.specs.Reach.Marking.{State, drained}
 use Rattle.mark.specs.Inner.Graph.{leads_to, graph_in, held_in}
 use Rattle.mark.specs.Inner.Objects.{Laid, laid_in}
 use Rattle.mark.specs.Inner.Scratch.{state_of, Scratch, Traces, seeded_from}

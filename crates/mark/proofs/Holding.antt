@@ -2,16 +2,16 @@
 use Prim.Native.Nat.{ℕ, ◌+◌, ◌-◌, ◌*◌, ◌/◌, ◌≤◌, ◌<◌}
 use Rattle.std.specs.Prelude.{if◌then◌else◌, Option as MaybeSlot, Some, None}
 use Rattle.word.proofs.ListLaws.{drop-cons-one, rest}
-use Rattle.trace.specs.Places.{handle_at}
-use Rattle.addresses.specs.Listed.{slot_of, slots_of}
-use Rattle.addresses.specs.Inner.Told.{told}
-use Rattle.addresses.proofs.Listing.{slots-append}
+use Rattle.tracing.specs.Trace.Places.{handle_at}
+use Rattle.collection.specs.Addresses.Listed.{slot_of, slots_of}
+use Rattle.collection.specs.Addresses.Inner.Told.{told}
+use Rattle.collection.proofs.AddressesLaws.Listing.{slots-append}
 use Rattle.std.specs.Simd.{first_chunks}
 use Rattle.word.proofs.ChunkLaws.{row-part}
-use Rattle.frame.specs.Frame.{Entry, entry, entries_of, first_word}
-use Rattle.frame.specs.Inner.Words.{entry_words, entries_words}
-use Rattle.frame.proofs.FrameLaws.{entries_next}
-use Rattle.reach.specs.Marking.{State, visit, follow_all, pin_if, pin_all}
+use Rattle.tracing.specs.Frame.Frame.{Entry, entry, entries_of, first_word}
+use Rattle.tracing.specs.Frame.Inner.Words.{entry_words, entries_words}
+use Rattle.tracing.proofs.FrameLaws.FrameLaws.{entries_next}
+use Rattle.reachability.specs.Reach.Marking.{State, visit, follow_all, pin_if, pin_all}
 use Rattle.mark.specs.Inner.Scratch.{state_of, Scratch, Holds}
 use Rattle.mark.specs.Inner.Joining.{in_use, taking}
 use Rattle.mark.specs.declared.queue.Queue.{Queue}

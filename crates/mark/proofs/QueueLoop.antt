@@ -10,22 +10,22 @@ use lib.Dec.{ltb}
 use borrow.Author.Tests.{lt-ltb, le-ltb}
 use native.Mathlib.Numerals.{add-one}
 use native.Mathlib.Omega.{arith}
-use Rattle.trace.specs.Inner.Emit.{InUse}
+use Rattle.tracing.specs.Trace.Inner.Emit.{InUse}
 use Rattle.std.specs.Prelude.{Option as Maybe, Some, None}
 use Rattle.word.specs.Result.{ok, refused}
 use Rattle.word.proofs.ListLaws.{take-zeros}
-use Rattle.reach.specs.Reach.{Graph}
-use Rattle.reach.specs.Marking.{State, follow_all, drained, marking, or_done, and_then}
+use Rattle.reachability.specs.Reach.Reach.{Graph}
+use Rattle.reachability.specs.Reach.Marking.{State, follow_all, drained, marking, or_done, and_then}
 use Rattle.heap.specs.Packing.{pad}
 use Rattle.heap.proofs.Packing.{drop-replicate}
-use Rattle.ty.specs.Types.{Table}
+use Rattle.type_table.specs.Rows.Types.{Table}
 use Rattle.mark.specs.Inner.Graph.{leads_to, shown_in, graph_in}
 use Rattle.mark.specs.Inner.Scratch.{low, state_of, Noted, NotedBy, Scratch, following, Traces, seeded_from}
 use Rattle.mark.specs.Inner.Told.{marks_in, starts_of, Ready}
 use Rattle.mark.specs.declared.queue.Queue.{Queue}
 use Rattle.mark.specs.Inner.Queues.{state, IsReady, SameLoans, counted, Reaches}
 use Rattle.mark.proofs.States.{scratch-start, same-again, then-same}
-use Rattle.reach.proofs.Visiting.{∈-get_or, good-room}
+use Rattle.reachability.proofs.ReachLaws.Visiting.{∈-get_or, good-room}
 
 -- ---- the function's clauses
 

@@ -4,7 +4,7 @@ use mathlib.Core.Path.{◌≡◌}
 use mathlib.Core.List.{List}
 use Rattle.word.specs.Result.{ok}
 use Rattle.handle.proofs.ResolveLaws.{resolve-ok}
-use Rattle.trace.specs.Inner.Emit.{resolve_in}
+use Rattle.tracing.specs.Trace.Inner.Emit.{resolve_in}
 
 pub resolves-in : (tag slots S : ℕ) (narrow : List ℕ) (h i : ℕ) → resolve_in tag slots S narrow h ≡ ok i → i < slots
 unfolding resolve_in

@@ -15,13 +15,13 @@ use Rattle.std.specs.Prelude.{if◌then◌else◌}
 use Rattle.word.specs.Ones.{passing}
 use Rattle.word.proofs.OnesLaws.{trailing_lt}
 use Rattle.word.proofs.Bools.{positive}
-use Rattle.rows.specs.Inner.Row.{bit_in, listed}
-use Rattle.rows.proofs.Listing.{leftover, pass-word, take-bit, all_left, less-word, passing-most}
-use Rattle.rows.proofs.Below.{below, below_in, below_out, below_none, below-listed}
-use Rattle.trace.specs.Inner.Emit.{raw_of, into, resolve_in, emitted}
-use Rattle.trace.specs.declared.Sink.TheVariants.{Work}
-use Rattle.addresses.specs.Listed.{slot_of, slots_of}
-use Rattle.reach.specs.Marking.{State, pin_all}
+use Rattle.bitset.specs.Rows.Inner.Row.{bit_in, listed}
+use Rattle.bitset.proofs.RowsLaws.Listing.{leftover, pass-word, take-bit, all_left, less-word, passing-most}
+use Rattle.bitset.proofs.RowsLaws.Below.{below, below_in, below_out, below_none, below-listed}
+use Rattle.tracing.specs.Trace.Inner.Emit.{raw_of, into, resolve_in, emitted}
+use Rattle.tracing.specs.declared.trace.Sink.TheVariants.{Work}
+use Rattle.collection.specs.Addresses.Listed.{slot_of, slots_of}
+use Rattle.reachability.specs.Reach.Marking.{State, pin_all}
 use Rattle.mark.specs.Inner.Graph.{leads_to}
 use Rattle.mark.specs.Inner.Scratch.{state_of, Scratch, Holds}
 use Rattle.mark.specs.declared.queue.Queue.{Queue}

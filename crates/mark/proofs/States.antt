@@ -4,13 +4,13 @@ use Rattle.word.specs.Run.{run}
 use Rattle.word.proofs.RunLaws.{run-get}
 use Rattle.handle.specs.Inner.Columns.{live_in}
 use Rattle.handle.proofs.ResolveLaws.{live-beyond, live-not, live-there}
-use Rattle.reach.specs.Marking.{State, visit, pin_if}
-use Rattle.reach.specs.Inner.Good.{Good}
-use Rattle.trace.specs.Inner.Emit.{over}
+use Rattle.reachability.specs.Reach.Marking.{State, visit, pin_if}
+use Rattle.reachability.specs.Reach.Inner.Good.{Good}
+use Rattle.tracing.specs.Trace.Inner.Emit.{over}
 use Rattle.mark.specs.Inner.Scratch.{low, high, state_of, Holds, Scratch, Noted, Clear}
 use Rattle.mark.specs.declared.queue.Queue.{Queue}
 use Rattle.mark.specs.Inner.Queues.{state, IsReady, SameLoans, Becomes}
-use Rattle.reach.proofs.Visiting.{sum-set, sum-le, visit-grown, good-nothing}
+use Rattle.reachability.proofs.ReachLaws.Visiting.{sum-set, sum-le, visit-grown, good-nothing}
 use mathlib.Core.Path.{◌≡◌, refl, sym, ap, ◌∙◌, subst}
 use mathlib.Core.Logic.{⊎_elim}
 use mathlib.Core.List.{List, [], ◌∷◌, ◌++◌, map, map-append}

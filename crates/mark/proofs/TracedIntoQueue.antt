@@ -1,4 +1,4 @@
--- What the tracer emits into the queue is what crate `reach` defines as following handles, where the scratch is good: the guards of `emit` never bite.
+-- What the tracer emits into the queue is what crate `reachability` defines as following handles, where the scratch is good: the guards of `emit` never bite.
 -- Assumes nothing.
 use Prim.Native.Nat.{ℕ, ◌+◌, ◌-◌, ◌*◌, ◌≤◌, ◌<◌}
 use mathlib.Core.Path.{◌≡◌, refl, sym, ap, ◌∙◌, subst}
@@ -18,12 +18,12 @@ use Rattle.word.proofs.RunLaws.{run-get, first-get}
 use Rattle.word.proofs.ListLaws.{drop-cons-one}
 use Rattle.handle.specs.Inner.Columns.{live_in}
 use Rattle.heap.specs.Packing.{data_at}
-use Rattle.ty.specs.Types.{Table}
-use Rattle.trace.specs.Places.{handles_of}
-use Rattle.trace.specs.Inner.Emit.{Raw, raw_of, into, resolve_in, over, queued, queued_if, emitted_by, emitted, emit_all, emitting, told, InUse}
-use Rattle.trace.specs.declared.Sink.TheVariants.{Work}
-use Rattle.trace.proofs.Emits.{queue-marked, queue-room, ok-inj}
-use Rattle.reach.specs.Marking.{State, visit, visit_maybe, follow, follow_all, pin_if, pin_all}
+use Rattle.type_table.specs.Rows.Types.{Table}
+use Rattle.tracing.specs.Trace.Places.{handles_of}
+use Rattle.tracing.specs.Trace.Inner.Emit.{Raw, raw_of, into, resolve_in, over, queued, queued_if, emitted_by, emitted, emit_all, emitting, told, InUse}
+use Rattle.tracing.specs.declared.trace.Sink.TheVariants.{Work}
+use Rattle.tracing.proofs.TraceLaws.Emits.{queue-marked, queue-room, ok-inj}
+use Rattle.reachability.specs.Reach.Marking.{State, visit, visit_maybe, follow, follow_all, pin_if, pin_all}
 use Rattle.collection.specs.Collected.{found}
 use Rattle.mark.specs.Inner.Scratch.{low, high, state_of, Scratch, Holds, following, Traces, Noted, NotedBy, seeded_from}
 use Rattle.mark.specs.Inner.Graph.{leads_to, shown_in, Fit}

@@ -1,15 +1,16 @@
 // Pinned slots of a joined collection, by the pins that are given and by addresses. A pinned slot is marked and queued whether it holds an object or not: a dead slot
 // shows no handles, and its mark says to the recycling that it stays in quarantine. So no list of the pins is made.
-ghost use Rattle.addresses.specs.Listed.{slot_of, slots_of};
-ghost use Rattle.frame.specs.Frame.{entry, entries_of, first_word};
-ghost use Rattle.frame.specs.Inner.Words.{entry_words, entries_words};
-ghost use Rattle.reach.specs.Marking.{pin_if, pin_all};
+ghost use Rattle.collection.specs.Addresses.Listed.{slot_of, slots_of};
+ghost use Rattle.tracing.specs.Frame.Frame.{entry, entries_of, first_word};
+ghost use Rattle.tracing.specs.Frame.Inner.Words.{entry_words, entries_words};
+ghost use Rattle.reachability.specs.Reach.Marking.{pin_if, pin_all};
 ghost use Rattle.mark.specs.Inner.Queues.{state, IsReady, Becomes};
 ghost use Rattle.mark.specs.Inner.Joining.{in_use};
 
 use crate::queue::Queue;
 use crate::registers::Frame;
-use addresses::Pairs;
+use collection::addresses::Pairs;
+use tracing::trace;
 
 impl Queue<'_> {
     // A pinned slot is marked and queued if there is that slot. Its index is any number of 64 bits.

@@ -2,27 +2,29 @@
 // of the addresses that the frame and the registers have.
 ghost use Rattle.std.specs.Prelude.{◌≡◌, ◌++◌, ◌+◌, ◌/◌, length};
 ghost use Rattle.heap.specs.Inner.Seen.{state as heap_state};
-ghost use Rattle.rows.specs.Inner.Row.{listed};
-ghost use Rattle.frame.specs.Frame.{entries_of};
-ghost use Rattle.frame.specs.Inner.Words.{entries_words};
-ghost use Rattle.addresses.specs.Listed.{slots_of};
+ghost use Rattle.bitset.specs.Rows.Inner.Row.{listed};
+ghost use Rattle.tracing.specs.Frame.Frame.{entries_of};
+ghost use Rattle.tracing.specs.Frame.Inner.Words.{entries_words};
+ghost use Rattle.collection.specs.Addresses.Listed.{slots_of};
 ghost use Rattle.mark.specs.Inner.Objects.{leads, held_of};
 ghost use Rattle.mark.specs.Inner.Scratch.{state_of, Scratch, Traces, seeded_from};
 ghost use Rattle.mark.specs.Inner.Queues.{state, IsReady, Becomes};
 ghost use Rattle.mark.specs.Inner.Told.{told, marks_in, Ready};
 ghost use Rattle.mark.specs.Inner.Joining.{in_use, taking, value_of, joined_from, joined_marks};
 ghost use Rattle.mark.specs.Inner.Safepoints.{live_values, handles_in, pinned_in};
-ghost use Rattle.ty.specs.Lent.{lent};
+ghost use Rattle.type_table.specs.Rows.Lent.{lent};
 
 use crate::objects::{Objects, seals};
 use crate::queue::Queue;
 pub use crate::registers::{Frame, Registers};
-use addresses::Pairs;
+use bitset::rows;
+use collection::addresses::Pairs;
 use handle::Slots;
 use heap::view::View;
 use refusal::Refusal;
-use trace::Sink;
-use ty::Table;
+use tracing::trace;
+use tracing::trace::Sink;
+use type_table::rows::Table;
 
 impl Queue<'_> {
     // The value of register q is taken, if there is that register and it is of the class that is wanted: a handle (class 4) is followed, an address (class 2) is looked
@@ -132,7 +134,7 @@ fn mark_frame(
         (pinned_in (lent table.now) registers.entry frame.entry pins.now pairs.entry)) }
 {
     let here = objects.slots;
-    let n = frame::trace_frame(
+    let n = tracing::frame::trace_frame(
         table,
         here,
         0,

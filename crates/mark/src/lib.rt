@@ -4,8 +4,8 @@
 
 ghost use Rattle.std.specs.Prelude.{◌≡◌, ◌-◌, ◌<◌, length};
 ghost use Rattle.heap.specs.Inner.Seen.{state as heap_state};
-ghost use Rattle.ty.specs.Lent.{lent};
-ghost use Rattle.reach.specs.Marking.{drained};
+ghost use Rattle.type_table.specs.Rows.Lent.{lent};
+ghost use Rattle.reachability.specs.Reach.Marking.{drained};
 ghost use Rattle.mark.specs.Inner.Graph.{shown_in};
 ghost use Rattle.mark.specs.Inner.Objects.{leads, lives, graph_of};
 ghost use Rattle.mark.specs.Inner.Scratch.{state_of, Scratch, following, Traces, NotedBy, seeded_from};
@@ -16,8 +16,9 @@ use crate::queue::Queue;
 use handle::Slots;
 use heap::view::View;
 use refusal::Refusal;
-use trace::Sink;
-use ty::Table;
+use tracing::trace::Sink;
+use tracing::traced;
+use type_table::rows::Table;
 
 pub mod hold; // what is pinned, by pins and by addresses
 pub mod joined; // the marking of a joined collection

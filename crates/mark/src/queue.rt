@@ -1,6 +1,7 @@
 // The scratch of a marking, lent to be changed: what is marked, and what is queued.
 use handle::Slots;
-use trace::Sink;
+use tracing::trace;
+use tracing::trace::Sink;
 
 // A mark for each slot, and the slots that are marked, in the order in which they were met: `n` of them, in the lower halves of the words of `work`.
 #[derive(Drop)]
@@ -11,7 +12,7 @@ pub struct Queue<'a> {
 }
 
 impl Queue<'_> {
-    ghost use Rattle.reach.specs.Marking.{follow_all, pin_if, pin_all};
+    ghost use Rattle.reachability.specs.Reach.Marking.{follow_all, pin_if, pin_all};
     ghost use Rattle.mark.specs.Inner.Objects.{leads, lives};
     ghost use Rattle.mark.specs.Inner.Scratch.{seeded_from};
     ghost use Rattle.mark.specs.Inner.Queues.{state, IsReady, Becomes};

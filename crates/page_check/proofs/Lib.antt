@@ -2,3 +2,4 @@ pub mod Marking
 pub mod Rules
 pub mod Verdict
 pub mod Unlisted
+pub mod PageParserLaws

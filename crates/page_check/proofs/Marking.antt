@@ -1,7 +1,7 @@
 -- Marking the values of a list, one bit each.
 use Prim.Native.Nat.{ℕ, ◌+◌, ◌-◌, ◌≤◌, ◌<◌}
 use Rattle.word.proofs.Bools.{true-false}
-use Rattle.rows.specs.Inner.Row.{bit_in}
+use Rattle.bitset.specs.Rows.Inner.Row.{bit_in}
 use Rattle.heap.specs.State.{bit, times}
 use Rattle.heap.proofs.Counting.{times-append}
 use Rattle.page_check.specs.Inner.Marks.{marked, Marked}

@@ -4,20 +4,20 @@ use Rattle.std.specs.Prelude.{Option, Some, None, MatchOption}
 use Rattle.word.proofs.Bools.{and-true, and-false, and_assoc}
 use Rattle.word.proofs.BitLaws.{bit-of-zero}
 use Rattle.word.proofs.ListLaws.{get_or-zeros}
-use Rattle.rows.specs.Inner.Row.{bit_in}
+use Rattle.bitset.specs.Rows.Inner.Row.{bit_in}
 use Rattle.text.specs.Format.{read_all}
 use Rattle.text.proofs.Laws.{bind-some, some_inj}
 use Rattle.heap.specs.State.{Slot, bit}
-use Rattle.pages.specs.Reading.{out_of_column, slot_format}
-use Rattle.pages.proofs.Writing.{blank}
-use Rattle.page_parser.specs.Inner.Values.{values_at}
+use Rattle.page_format.specs.Pages.Reading.{out_of_column, slot_format}
+use Rattle.page_format.proofs.PagesLaws.Writing.{blank}
+use Rattle.page_check.specs.PageParser.Inner.Values.{values_at}
 use Rattle.page_check.specs.Inner.Marks.{marked, Marked}
 use Rattle.page_check.specs.Inner.Rules.{expected, right, agree, each, listed, obeyed, RunChecked}
-use Rattle.page_parser.specs.Inner.Slots.{slots_at, past_slots, SlotsParsed}
-use Rattle.page_parser.proofs.Reading.{slots-are, past-slots-are, read_count}
-use Rattle.page_parser.specs.Contents.{heap_in}
-use Rattle.page_parser.specs.Inner.Sections.{Sectioned}
-use Rattle.page_parser.specs.declared.Sections.{Sections}
+use Rattle.page_check.specs.PageParser.Inner.Slots.{slots_at, past_slots, SlotsParsed}
+use Rattle.page_check.proofs.PageParserLaws.Reading.{slots-are, past-slots-are, read_count}
+use Rattle.page_check.specs.PageParser.Contents.{heap_in}
+use Rattle.page_check.specs.PageParser.Inner.Sections.{Sectioned}
+use Rattle.page_check.specs.declared.page_parser.Sections.{Sections}
 use Rattle.page_check.specs.declared.Rule.{Rule}
 use Rattle.page_check.specs.declared.Rule.TheVariants.{Once, Young, Worn}
 use Rattle.page_check.proofs.Marking.{mark-told, mark-both, mark-spoilt}

@@ -7,19 +7,19 @@ use Rattle.word.proofs.Bools.{bool-ext, and-true, and-false, and_both, both-and,
 use Rattle.word.proofs.ListLaws.{at_all, below_at, at-below, below-same, below-front}
 use Rattle.heap.specs.State.{Slot, State, no_slot, slot_at, data_size, live, worn, bit, times}
 use Rattle.heap.specs.WellFormed.{places, partitioned, retired_rightly, sound_slot, sound_seals, sound_reclaim, sound}
-use Rattle.pages.specs.Page.{moved, sound_before}
-use Rattle.pages.proofs.Moving.{moved-sound}
+use Rattle.page_format.specs.Pages.Page.{moved, sound_before}
+use Rattle.page_format.proofs.PagesLaws.Moving.{moved-sound}
 use Rattle.heap.proofs.Counting.{times-append, times-member}
 use Rattle.heap.proofs.Testing.{parts-tested, all-times}
 use Rattle.page_check.specs.Inner.Rules.{expected, right, each, listed, obeyed, parted}
-use Rattle.page_parser.specs.Contents.{heap_in, form_in}
-use Rattle.page_parser.specs.Inner.Sections.{brought_in, sound_but, Sectioned, Parsing}
+use Rattle.page_check.specs.PageParser.Contents.{heap_in, form_in}
+use Rattle.page_check.specs.PageParser.Inner.Sections.{brought_in, sound_but, Sectioned, Parsing}
 use Rattle.page_check.specs.Verdict.{verdict}
 use Rattle.page_check.specs.Inner.Accepting.{Accepted}
-use Rattle.page_parser.specs.declared.Sections.{Sections}
+use Rattle.page_check.specs.declared.page_parser.Sections.{Sections}
 use Rattle.page_check.specs.declared.Rule.{Rule}
 use Rattle.page_check.specs.declared.Rule.TheVariants.{Once, Young, Worn}
-use Rattle.pages.specs.Reading.{read_page}
+use Rattle.page_format.specs.Pages.Reading.{read_page}
 use mathlib.Core.List.{List, [], ◌∷◌, ◌++◌}
 use mathlib.Core.Option.{none}
 use mathlib.Core.Bool.{Bool, true, false, not, ◌&&◌, ◌||◌}

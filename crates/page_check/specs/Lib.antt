@@ -1,2 +1,3 @@
 pub mod Verdict
 pub mod Inner
+pub mod PageParser

@@ -5,8 +5,8 @@ use mathlib.Core.Option.{none, some}
 use Rattle.heap.specs.State.{State, data_size}
 use Rattle.heap.specs.WellFormed.{sound}
 use Rattle.word.specs.Result.{Result, ok, refused}
-use Rattle.pages.specs.Form.{Form}
-use Rattle.pages.specs.Page.{brought}
+use Rattle.page_format.specs.Pages.Form.{Form}
+use Rattle.page_format.specs.Pages.Page.{brought}
 
 -- what a text is refused for, in the order of SCOPE, "Order of refusals", or the heap that it
 -- brings: not a page 17, lent sizes out of range or a heap that is not sound 1, beyond the pool 6,

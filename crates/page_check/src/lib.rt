@@ -1,20 +1,24 @@
+// What a text is refused for as a page, without touching the lent heap.
+//
 // The first pass over a page: what a text is refused for, without touching the lent heap.
 #![tactic(auto)]
 
 ghost use Rattle.std.specs.Prelude.{◌≡◌, [], ◌∷◌, ◌*◌, ◌≤◌, length, drop, replicate, true, false, MatchOption};
 ghost use Rattle.text.specs.Format.{read_all};
 ghost use Rattle.heap.specs.State.{bit};
-ghost use Rattle.page_parser.specs.Inner.Values.{values_at, ValuesParsed};
-ghost use Rattle.page_parser.specs.Inner.Slots.{slots_at};
+ghost use Rattle.page_check.specs.PageParser.Inner.Values.{values_at, ValuesParsed};
+ghost use Rattle.page_check.specs.PageParser.Inner.Slots.{slots_at};
 ghost use Rattle.page_check.specs.Inner.Marks.{Marked};
 ghost use Rattle.page_check.specs.Inner.Rules.{right, agree};
 ghost use Rattle.page_check.specs.Inner.Accepting.{Checking};
 ghost use Rattle.page_check.specs.Verdict.{verdict};
 ghost use Rattle.text.specs.Reading.{give};
-ghost use Rattle.pages.specs.Reading.{slot_format, read_page};
+ghost use Rattle.page_format.specs.Pages.Reading.{slot_format, read_page};
 
 pub mod page;
+pub mod page_parser; // the parts that stand in a text, and whether each is sound by itself
 
+use bitset::rows;
 use page::Page;
 use page_parser::lines::Lines;
 use refusal::Refusal;

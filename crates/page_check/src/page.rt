@@ -1,14 +1,14 @@
 // A text that is a page, with what the first pass found in it: is each of its slots where it belongs?
 ghost use Rattle.std.specs.Prelude.{ℕ, ◌≡◌, ◌*◌, ◌≤◌, ◌++◌, length, true, false, MatchOption};
-ghost use Rattle.page_parser.specs.Contents.{heap_in, form_in};
-ghost use Rattle.page_parser.specs.Inner.Slots.{slots_at, SlotsParsed};
-ghost use Rattle.page_parser.specs.Inner.Sections.{Sectioned};
+ghost use Rattle.page_check.specs.PageParser.Contents.{heap_in, form_in};
+ghost use Rattle.page_check.specs.PageParser.Inner.Slots.{slots_at, SlotsParsed};
+ghost use Rattle.page_check.specs.PageParser.Inner.Sections.{Sectioned};
 ghost use Rattle.page_check.specs.Inner.Marks.{Marked};
 ghost use Rattle.page_check.specs.Inner.Rules.{right, each, listed, obeyed, parted, RunChecked};
 
 use crate::Rule;
-use page_parser::Sections;
-use page_parser::lines::Lines;
+use crate::page_parser::Sections;
+use crate::page_parser::lines::Lines;
 
 #[derive(Clone, Copy)]
 pub struct Page<'a> {

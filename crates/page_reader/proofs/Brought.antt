@@ -19,8 +19,8 @@ use Rattle.heap.specs.Packing.{pad}
 use Rattle.heap.specs.WellFormed.{places, partitioned, retired_rightly}
 use Rattle.heap.proofs.Packing.{get_or-pad}
 use Rattle.heap.proofs.Storing.{get_or-pad-past}
-use Rattle.pages.specs.Page.{moved}
-use Rattle.pages.proofs.Moving.{same-partition}
+use Rattle.page_format.specs.Pages.Page.{moved}
+use Rattle.page_format.proofs.PagesLaws.Moving.{same-partition}
 use Rattle.page_reader.specs.Inner.Columns.{stay_free, retire}
 use Rattle.heap.specs.Inner.Columns.{worn_in, Below}
 

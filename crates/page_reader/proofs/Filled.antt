@@ -5,8 +5,8 @@ use Rattle.text.proofs.Putting.{put-length}
 use Rattle.word.proofs.PutLaws.{put_one, put-put}
 use Rattle.heap.specs.State.{Slot, data_of, data_size}
 use Rattle.heap.specs.Packing.{ends}
-use Rattle.pages.proofs.Writing.{blank}
-use Rattle.page_parser.proofs.Reading.{data-cons}
+use Rattle.page_format.proofs.PagesLaws.Writing.{blank}
+use Rattle.page_check.proofs.PageParserLaws.Reading.{data-cons}
 use Rattle.std.specs.List.{concat}
 use mathlib.Core.List.{List, [], ◌∷◌, ◌++◌, map}
 use mathlib.Core.Path.{◌≡◌, refl, sym, ap, ◌∙◌}

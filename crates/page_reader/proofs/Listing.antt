@@ -5,9 +5,9 @@ use Rattle.text.specs.Inner.Answer.{value_answer}
 use Rattle.text.specs.Put.{put_text}
 use Rattle.std.specs.Prelude.{Option, Some, None}
 use Rattle.text.proofs.Putting.{put-nothing}
-use Rattle.page_parser.specs.Inner.Values.{values_at, past_values, ValuesParsed}
-use Rattle.page_parser.proofs.Lists.{value_found, value_none}
-use Rattle.page_parser.proofs.Remaining.{read_next, read_some, read-end}
+use Rattle.page_check.specs.PageParser.Inner.Values.{values_at, past_values, ValuesParsed}
+use Rattle.page_check.proofs.PageParserLaws.Lists.{value_found, value_none}
+use Rattle.page_check.proofs.PageParserLaws.Remaining.{read_next, read_some, read-end}
 use Rattle.page_reader.proofs.Filled.{col-next}
 use Rattle.text.specs.Reading.{give, read_field}
 use mathlib.Core.List.{List, [], ◌∷◌, ◌++◌}

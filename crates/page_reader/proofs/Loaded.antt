@@ -17,26 +17,26 @@ use Rattle.heap.specs.WellFormed.{sound}
 use Rattle.heap.specs.declared.Heap.{Heap}
 use Rattle.heap.proofs.Packing.{drop-replicate}
 use Rattle.heap.proofs.Recycled.{filter-total}
-use Rattle.pages.specs.Form.{Form, writes_width}
-use Rattle.pages.specs.Page.{moved, brought}
-use Rattle.pages.proofs.Writing.{back-length}
-use Rattle.pages.proofs.Bound.{parts, dead-length, sealed-length}
-use Rattle.page_parser.proofs.Columned.{same_size}
-use Rattle.page_parser.specs.Inner.Slots.{slots_at}
-use Rattle.page_parser.specs.Inner.Values.{values_at}
-use Rattle.page_parser.specs.Contents.{heap_in, form_in}
-use Rattle.page_parser.specs.Inner.Sections.{brought_in, Sectioned}
+use Rattle.page_format.specs.Pages.Form.{Form, writes_width}
+use Rattle.page_format.specs.Pages.Page.{moved, brought}
+use Rattle.page_format.proofs.PagesLaws.Writing.{back-length}
+use Rattle.page_format.proofs.PagesLaws.Bound.{parts, dead-length, sealed-length}
+use Rattle.page_check.proofs.PageParserLaws.Columned.{same_size}
+use Rattle.page_check.specs.PageParser.Inner.Slots.{slots_at}
+use Rattle.page_check.specs.PageParser.Inner.Values.{values_at}
+use Rattle.page_check.specs.PageParser.Contents.{heap_in, form_in}
+use Rattle.page_check.specs.PageParser.Inner.Sections.{brought_in, Sectioned}
 use Rattle.page_check.specs.Inner.Accepting.{Accepted, Checking}
 use Rattle.page_check.specs.Verdict.{verdict}
 use Rattle.page_check.specs.declared.page.Page.{Page}
-use Rattle.page_parser.specs.declared.Sections.{Sections}
+use Rattle.page_check.specs.declared.page_parser.Sections.{Sections}
 use Rattle.page_reader.specs.Inner.Columns.{stay_free, retire, ages, with_numbers, with_parted, with_lists, NumbersFilled, FreeParted, ListsFilled, Roomy}
 use Rattle.page_reader.specs.Reading.{in_range, read_into}
 use Rattle.heap.specs.Sizes.{sizes_fit}
 use Rattle.heap.proofs.Sizes.{sizes-tested}
 use Rattle.page_reader.proofs.Loading.{padded}
 use Rattle.page_reader.proofs.Brought.{brought-free, brought-retired, retired_count, said-parted, free-below, free-young}
-use Rattle.pages.specs.Reading.{out_of_column, read_page}
+use Rattle.page_format.specs.Pages.Reading.{out_of_column, read_page}
 use Rattle.page_reader.specs.Inner.PageRead.{PageRead}
 use Rattle.std.specs.List.{concat}
 use Rattle.word.proofs.ResultLaws.{not-refused, not-ok}

@@ -13,11 +13,11 @@ use Rattle.heap.specs.State.{State}
 use Rattle.heap.specs.Lent.{header_of}
 use Rattle.heap.specs.declared.Heap.{Heap}
 use Rattle.heap.proofs.Packing.{drop-replicate}
-use Rattle.pages.specs.Page.{Unsaved, moved}
-use Rattle.pages.proofs.Laws.{written_read}
-use Rattle.page_parser.specs.Contents.{heap_in, form_in}
-use Rattle.page_parser.specs.Inner.Sections.{brought_in, Sectioned}
-use Rattle.page_parser.specs.declared.Sections.{Sections}
+use Rattle.page_format.specs.Pages.Page.{Unsaved, moved}
+use Rattle.page_format.proofs.PagesLaws.Laws.{written_read}
+use Rattle.page_check.specs.PageParser.Contents.{heap_in, form_in}
+use Rattle.page_check.specs.PageParser.Inner.Sections.{brought_in, Sectioned}
+use Rattle.page_check.specs.declared.page_parser.Sections.{Sections}
 
 -- zeros filled in from the front
 pub padded : (n : ℕ) (a xs : List ℕ) → a ≡ replicate n 0 → put_text a 0 xs ≡ pad n xs

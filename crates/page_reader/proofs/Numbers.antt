@@ -11,16 +11,16 @@ use Rattle.heap.specs.Packing.{ends}
 use Rattle.heap.specs.Lent.{Lent, columns, cut}
 use Rattle.heap.specs.declared.Heap.{Heap}
 use Rattle.heap.proofs.Runs.{recount, with-generation, with-kind, with-type, with-end, with-writes, set-generation, set-kind, set-type, set-start, set-end, set-writes}
-use Rattle.pages.proofs.Writing.{blank}
-use Rattle.page_parser.specs.Inner.Slots.{slots_at, past_slots, SlotsParsed}
-use Rattle.page_parser.specs.Inner.Answer.{slot_answer}
-use Rattle.page_parser.specs.declared.SlotRead.{SlotRead}
-use Rattle.page_parser.proofs.Reading.{Found, line-found, line-lost}
-use Rattle.page_parser.proofs.Remaining.{read_next, read_some, read-end}
+use Rattle.page_format.proofs.PagesLaws.Writing.{blank}
+use Rattle.page_check.specs.PageParser.Inner.Slots.{slots_at, past_slots, SlotsParsed}
+use Rattle.page_check.specs.PageParser.Inner.Answer.{slot_answer}
+use Rattle.page_check.specs.declared.page_parser.SlotRead.{SlotRead}
+use Rattle.page_check.proofs.PageParserLaws.Reading.{Found, line-found, line-lost}
+use Rattle.page_check.proofs.PageParserLaws.Remaining.{read_next, read_some, read-end}
 use Rattle.page_reader.specs.Inner.Columns.{with_numbers, NumbersFilled}
 use Rattle.page_reader.proofs.Filled.{column-next, end-next, data-next}
 use Rattle.text.specs.Reading.{give}
-use Rattle.pages.specs.Reading.{slot_format}
+use Rattle.page_format.specs.Pages.Reading.{slot_format}
 use mathlib.Core.List.{List, map}
 use mathlib.Core.Bool.{true}
 use mathlib.Core.Path.{◌≡◌, refl, sym, ap, ◌∙◌}

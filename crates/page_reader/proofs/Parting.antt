@@ -11,9 +11,9 @@ use Rattle.heap.specs.State.{last_generation}
 use Rattle.heap.specs.Lent.{Lent, columns, cut}
 use Rattle.heap.specs.declared.Heap.{Heap}
 use Rattle.heap.proofs.Runs.{recount, set-free, set-retired}
-use Rattle.page_parser.specs.Inner.Values.{values_at, past_values, ValuesParsed}
-use Rattle.page_parser.proofs.Lists.{value_found, value_none}
-use Rattle.page_parser.proofs.Remaining.{read_next, read_some, read-end}
+use Rattle.page_check.specs.PageParser.Inner.Values.{values_at, past_values, ValuesParsed}
+use Rattle.page_check.proofs.PageParserLaws.Lists.{value_found, value_none}
+use Rattle.page_check.proofs.PageParserLaws.Remaining.{read_next, read_some, read-end}
 use Rattle.page_reader.specs.Inner.Columns.{stay_free, retire, with_parted, PutIn, ages, FreeParted}
 use Rattle.page_reader.proofs.Filled.{col-next}
 use Rattle.text.specs.Reading.{give, read_field}

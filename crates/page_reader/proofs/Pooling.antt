@@ -8,19 +8,19 @@ use Rattle.text.specs.Put.{put_text}
 use Rattle.text.proofs.Laws.{hex-forth, hex-length}
 use Rattle.text.proofs.Putting.{puts-puts, puts-at, puts_none}
 use Rattle.heap.specs.State.{Slot, data_of, data_size}
-use Rattle.pages.specs.Inner.Columns.{field}
-use Rattle.pages.proofs.Laws.{slot-right, slot-prints}
-use Rattle.pages.proofs.Writing.{blank, slot-parts}
-use Rattle.page_parser.specs.Inner.Slots.{slots_at, past_slots, SlotsParsed}
-use Rattle.page_parser.specs.Inner.Answer.{slot_answer}
-use Rattle.page_parser.specs.declared.SlotRead.{SlotRead}
-use Rattle.page_parser.proofs.Columned.{same_size}
-use Rattle.page_parser.proofs.Reading.{Found, line-found, line-lost}
-use Rattle.page_parser.proofs.Remaining.{read_next, read_some, read-end}
+use Rattle.page_format.specs.Pages.Inner.Columns.{field}
+use Rattle.page_format.proofs.PagesLaws.Laws.{slot-right, slot-prints}
+use Rattle.page_format.proofs.PagesLaws.Writing.{blank, slot-parts}
+use Rattle.page_check.specs.PageParser.Inner.Slots.{slots_at, past_slots, SlotsParsed}
+use Rattle.page_check.specs.PageParser.Inner.Answer.{slot_answer}
+use Rattle.page_check.specs.declared.page_parser.SlotRead.{SlotRead}
+use Rattle.page_check.proofs.PageParserLaws.Columned.{same_size}
+use Rattle.page_check.proofs.PageParserLaws.Reading.{Found, line-found, line-lost}
+use Rattle.page_check.proofs.PageParserLaws.Remaining.{read_next, read_some, read-end}
 use Rattle.page_reader.proofs.Filled.{take_more, data-next}
 use Rattle.text.specs.Reading.{give, read_hex}
 use Rattle.text.specs.Inner.Puts.{Puts}
-use Rattle.pages.specs.Reading.{from_column, slot_format, out_of_column}
+use Rattle.page_format.specs.Pages.Reading.{from_column, slot_format, out_of_column}
 use Rattle.text.proofs.Copying.{hex-is}
 use Rattle.std.specs.List.{concat}
 use mathlib.Core.List.{List, [], ◌∷◌, ◌++◌, append_assoc, map, map-append}

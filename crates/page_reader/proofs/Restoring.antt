@@ -9,12 +9,12 @@ use native.Mathlib.Omega.{arith}
 use borrow.Rule.Slice.PartMut.{put_mid}
 use Rattle.word.proofs.PutLaws.{drop-put, mid-put, put_all}
 use lib.Seq.{take_all}
-use Rattle.planes.specs.Planes.{restored}
-use Rattle.planes.proofs.Laws.{length-restored}
+use Rattle.text.specs.Planes.Planes.{restored}
+use Rattle.text.proofs.PlanesLaws.Laws.{length-restored}
 use Rattle.text.specs.Put.{put_text}
 use Rattle.text.specs.Inner.Puts.{Puts}
 use Rattle.text.proofs.Putting.{puts-at, puts-length}
-use Rattle.pages.specs.Reading.{from_column}
+use Rattle.page_format.specs.Pages.Reading.{from_column}
 
 -- a text put in the place of another as long
 put-over : (d t u : List ℕ) (at n : ℕ) → at + length t ≤ length d → n ≡ length t → length u ≡ length t → put_mid at n (put_text d at t) u ≡ put_text d at u

@@ -5,10 +5,10 @@ use Rattle.std.specs.Prelude.{ℕ, ◌+◌, Bool, ◌&&◌, List, eqb, leb, leng
 use Rattle.word.specs.Result.{Result, ok, refused}
 use Rattle.heap.specs.State.{State}
 use Rattle.heap.specs.Lent.{Lent, stored, slot_count, pool_size}
-use Rattle.pages.specs.Form.{Form, writes_width}
-use Rattle.page_parser.specs.Contents.{form_in}
+use Rattle.page_format.specs.Pages.Form.{Form, writes_width}
+use Rattle.page_check.specs.PageParser.Contents.{form_in}
 use Rattle.page_check.specs.Verdict.{verdict}
-use Rattle.pages.specs.Reading.{read_page}
+use Rattle.page_format.specs.Pages.Reading.{read_page}
 
 -- the lengths of what is lent are right (`sizes_fit`), said of the runs: S and pool in range, the last run of either list has S entries, and nothing lies past them
 unfoldable pub in_range : Lent → Bool

@@ -4,25 +4,27 @@
 ghost use Rattle.std.specs.Prelude.{◌≡◌, map, ◌+◌, ◌-◌, ◌*◌, ◌/◌, ◌^◌, ◌≤◌, ◌<◌, length, replicate, if◌then◌else◌};
 ghost use Rattle.text.specs.Put.{put_text};
 ghost use Rattle.text.specs.Inner.Answer.{hex_at};
-ghost use Rattle.pages.specs.Form.{writes_width};
+ghost use Rattle.page_format.specs.Pages.Form.{writes_width};
 ghost use Rattle.heap.specs.State.{data_of, data_size};
-ghost use Rattle.page_parser.specs.Inner.Values.{values_at, ValuesParsed};
-ghost use Rattle.page_parser.specs.Inner.Slots.{slots_at};
+ghost use Rattle.page_check.specs.PageParser.Inner.Values.{values_at, ValuesParsed};
+ghost use Rattle.page_check.specs.PageParser.Inner.Slots.{slots_at};
 ghost use Rattle.heap.specs.Lent.{lent, header_of, stored};
-ghost use Rattle.page_parser.specs.Contents.{heap_in};
-ghost use Rattle.page_parser.specs.Inner.Sections.{brought_in};
+ghost use Rattle.page_check.specs.PageParser.Contents.{heap_in};
+ghost use Rattle.page_check.specs.PageParser.Inner.Sections.{brought_in};
 ghost use Rattle.page_reader.specs.Inner.Columns.{NumbersFilled, PutIn, FreeParted, ListsFilled, Roomy};
 ghost use Rattle.text.specs.Inner.Puts.{Puts};
-ghost use Rattle.pages.specs.Reading.{from_column, out_of_column};
+ghost use Rattle.page_format.specs.Pages.Reading.{from_column, out_of_column};
 ghost use Rattle.page_reader.specs.Inner.PageRead.{PageRead};
 ghost use Rattle.std.specs.List.{concat};
 ghost use Rattle.heap.specs.Inner.Columns.{Below};
 
 use heap::{Changed, Heap};
 use page_check::page::Page;
-use page_parser::lines::Lines;
-use pages::Listed;
+use page_check::page_parser;
+use page_check::page_parser::lines::Lines;
+use page_format::pages::Listed;
 use text::hex::Hex;
+use text::planes;
 
 // Puts an object's bytes, whose column a text spells, into the pool from `to` on, and answers where they end. Planes are restored in place.
 fn fill_column(hex: Hex, planar: bool, pool: &mut [u8], to: usize) -> usize

@@ -15,7 +15,7 @@ use Rattle.heap.specs.Calls.{Changed, done}
 use Rattle.heap.specs.Lent.{Lent, lent, view}
 use Rattle.std.specs.Prelude.{Option, Some}
 use Rattle.std.specs.Prelude.{Result as Outcome, Ok, Err}
-use Rattle.pages.specs.Page.{value_line}
+use Rattle.page_format.specs.Pages.Page.{value_line}
 use Rattle.script.specs.Script.{and_then, run_script}
 use Rattle.script.proofs.Scripts.{run-parts}
 use Rattle.page_runs.specs.declared.At.{At}

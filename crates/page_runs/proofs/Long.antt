@@ -9,8 +9,8 @@ use Rattle.text.specs.Format.{number, bytes_line, pair}
 use Rattle.text.proofs.Laws.{none-not-some, decimal-length, byte-forth, hex-digit-above, hex-digit-back, literal-forth, number-right, no-comma}
 use Rattle.heap.specs.State.{State}
 use Rattle.heap.specs.Calls.{Changed, refuse}
-use Rattle.heap_calls.proofs.Allocating.{alloc-none}
-use Rattle.object_door.specs.ObjectCalls.{is_kind, allocating}
+use Rattle.heap_ops.proofs.HeapCallsLaws.Allocating.{alloc-none}
+use Rattle.heap_ops.specs.Placing.Calls.{is_kind, allocating}
 use Rattle.script.specs.Script.{doing, and_then, run_script}
 use Rattle.script.specs.Calls.{Call, alloc, take as takes, seal, recycle, Within, call_line}
 use Rattle.script.specs.Reading.{alloc_format, read_alloc, read_call}

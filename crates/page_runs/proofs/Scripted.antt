@@ -14,17 +14,17 @@ use Rattle.heap.proofs.Storing.{view-stored, well-stored, stored-count, stored-r
 use Rattle.heap.proofs.Testing.{formed-tested, formed-test}
 use Rattle.heap.proofs.Keeping.{take-sound}
 use Rattle.heap.proofs.Recycled.{recycle-sound}
-use Rattle.heap_calls.proofs.Allocating.{alloc-sound}
-use Rattle.heap_edit.proofs.Soundness.{seal-sound}
-use Rattle.door.specs.HeapCalls.{Outcome, outcome_of, enough, admitted, ready}
+use Rattle.heap_ops.proofs.HeapCallsLaws.Allocating.{alloc-sound}
+use Rattle.heap_ops.proofs.HeapEditLaws.Soundness.{seal-sound}
+use Rattle.validate.specs.Door.HeapCalls.{Outcome, outcome_of, enough, admitted, ready}
 use Rattle.std.specs.Prelude.{Ok, Err}
-use Rattle.door.proofs.Entering.{is-enough, calling-not, calling-ready}
-use Rattle.object_door.specs.ObjectCalls.{is_kind, allocating, recycling}
+use Rattle.validate.proofs.DoorLaws.Entering.{is-enough, calling-not, calling-ready}
+use Rattle.heap_ops.specs.Placing.Calls.{is_kind, allocating, recycling}
 use Rattle.script.specs.Script.{lines, is_call, first_is_call, begins_call, silent, doing, line_does, unless, run_lines, run_script}
 use Rattle.script.specs.Calls.{Call, alloc, take, seal, recycle}
 use Rattle.script.specs.Reading.{call_of}
 use Rattle.script.proofs.Refusing.{Numbered, alloc-numbered, free-numbered}
-use Rattle.run_door.specs.Run.{run_tests, run_call}
+use Rattle.yexwalu.specs.Scripts.Run.{run_tests, run_call}
 use Rattle.page_runs.specs.declared.Run.{Run}
 use Rattle.page_runs.specs.Inner.Steps.{Ran}
 use Rattle.page_runs.specs.Steps.{Lies, Good}

@@ -12,10 +12,10 @@ use Rattle.heap.specs.WellFormed.{well_formed}
 use Rattle.heap.specs.Calls.{new}
 use Rattle.heap.specs.declared.Heap.{Heap}
 use Rattle.heap.proofs.Packing.{length-pad}
-use Rattle.door.specs.HeapCalls.{Outcome, outcome, enough}
-use Rattle.door.proofs.Entering.{is-enough}
-use Rattle.object_door.specs.Making.{no_header, new_call}
-use Rattle.object_door.proofs.Made.{new-made, new-formed}
+use Rattle.validate.specs.Door.HeapCalls.{Outcome, outcome, enough}
+use Rattle.validate.proofs.DoorLaws.Entering.{is-enough}
+use Rattle.yexwalu.specs.Objects.Making.{no_header, new_call}
+use Rattle.yexwalu.proofs.ObjectsLaws.Made.{new-made, new-formed}
 use Rattle.page_runs.specs.declared.At.{At}
 use Rattle.page_runs.specs.declared.At.TheVariants.{Names, Lines, Over}
 use Rattle.page_runs.specs.declared.Run.{Run}

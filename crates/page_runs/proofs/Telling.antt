@@ -12,14 +12,14 @@ use Rattle.refusal.specs.Told.{answered, here, nothing}
 use Rattle.refusal.specs.declared.Answer.{Answer}
 use Rattle.heap.specs.State.{State}
 use Rattle.heap.specs.Lent.{Lent, view}
-use Rattle.door.specs.HeapCalls.{Asked, asked, admitted, heap_tests, whether, Entry, ready}
-use Rattle.door.proofs.Entering.{is-enough, asking-ready}
-use Rattle.pages.specs.Form.{written}
-use Rattle.pages.specs.Page.{value_line, page_text}
-use Rattle.pages.specs.Answer.{text_answer, text_out}
-use Rattle.page_door.specs.Page.{writing, page_out}
-use Rattle.widths.specs.Words.{Words}
-use Rattle.widths.proofs.Widths.{page-fits}
+use Rattle.validate.specs.Door.HeapCalls.{Asked, asked, admitted, heap_tests, whether, Entry, ready}
+use Rattle.validate.proofs.DoorLaws.Entering.{is-enough, asking-ready}
+use Rattle.page_format.specs.Pages.Form.{written}
+use Rattle.page_format.specs.Pages.Page.{value_line, page_text}
+use Rattle.page_format.specs.Pages.Answer.{text_answer, text_out}
+use Rattle.yexwalu.specs.Pages.Page.{writing, page_out}
+use Rattle.page_format.specs.Widths.Words.{Words}
+use Rattle.page_format.proofs.WidthsLaws.Widths.{page-fits}
 use Rattle.script.specs.Script.{run_script}
 use Rattle.page_runs.specs.declared.At.{At}
 use Rattle.page_runs.specs.declared.At.TheVariants.{Names, Lines, Over}

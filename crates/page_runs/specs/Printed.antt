@@ -6,8 +6,8 @@ use Rattle.word.specs.Result.{Result, ok, refused}
 use Rattle.text.specs.Text.{ascii, read_literal}
 use Rattle.heap.specs.State.{State}
 use Rattle.heap.specs.Calls.{Changed, new}
-use Rattle.pages.specs.Form.{written}
-use Rattle.pages.specs.Page.{value_line, page_text}
+use Rattle.page_format.specs.Pages.Form.{written}
+use Rattle.page_format.specs.Pages.Page.{value_line, page_text}
 use Rattle.script.specs.Script.{run_script}
 
 unfoldable pub names_line : List ℕ

@@ -5,7 +5,7 @@ use Rattle.text.specs.Text.{read_literal}
 use Rattle.heap.specs.State.{State}
 use Rattle.heap.specs.Lent.{Lent, view, slot_count, pool_size}
 use Rattle.heap.specs.WellFormed.{well_formed}
-use Rattle.pages.specs.Page.{value_line}
+use Rattle.page_format.specs.Pages.Page.{value_line}
 use Rattle.script.specs.Script.{run_script}
 use Rattle.page_runs.specs.declared.At.{At}
 use Rattle.page_runs.specs.declared.At.TheVariants.{Names, Lines, Over}

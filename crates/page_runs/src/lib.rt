@@ -9,8 +9,8 @@
 ghost use Rattle.std.specs.Prelude.{◌≡◌, ◌-◌, ◌≤◌, take, drop, false, IsTrue, ◌↔◌};
 ghost use Rattle.text.specs.Text.{read_literal};
 ghost use Rattle.heap.specs.Lent.{view};
-ghost use Rattle.pages.specs.Page.{value_line, page_text};
-ghost use Rattle.pages.specs.Form.{written};
+ghost use Rattle.page_format.specs.Pages.Page.{value_line, page_text};
+ghost use Rattle.page_format.specs.Pages.Form.{written};
 ghost use Rattle.page_runs.specs.Printed.{names_line, printed};
 ghost use Rattle.page_runs.specs.Inner.Steps.{Ran, Cut, is_there, is_over, over_with};
 ghost use Rattle.page_runs.specs.Steps.{text_left, Begun, Goes, Ends};
@@ -18,6 +18,9 @@ ghost use Rattle.page_runs.specs.Inner.Held.{lies};
 ghost use Rattle.page_runs.specs.Inner.Long.{Open, HeadFound, AllHex, Shortens};
 
 use heap::Heap;
+use page_format::widths;
+use word::memory;
+use yexwalu::{objects, pages, scripts};
 
 mod running;
 
@@ -141,7 +144,7 @@ impl Running {
         let mut pool = [0u8; 4096];
         let mut marks = [0u8; 64];
         let mut work = [0u64; 64];
-        let made = object_door::yexwalu_new(
+        let made = objects::yexwalu_new(
             1,
             &mut narrow,
             &mut wide,
@@ -174,7 +177,7 @@ impl Running {
         let room = &mut self.room;
         let marks = &mut self.marks;
         let work = &mut self.work;
-        let done = run_door::yexwalu_run(
+        let done = scripts::yexwalu_run(
             self.run.heap,
             narrow,
             wide,
@@ -250,9 +253,7 @@ impl Running {
         let work = &mut self.work;
         let heap = self.run.heap;
         widths::words(heap, narrow, wide, pool);
-        let written = page_door::yexwalu_write_page(
-            heap, narrow, wide, pool, false, out, marks, work,
-        );
+        let written = pages::yexwalu_write_page(heap, narrow, wide, pool, false, out, marks, work);
         written.first as usize
     }
 

@@ -21,8 +21,8 @@ use Rattle.heap.specs.Calls.{Changed, refuse, alloc_from, charged, placed, grown
 use Rattle.heap.proofs.Counting.{free-inside, inside, times-member}
 use Rattle.heap.proofs.Keeping.{step-most, at_same, at_other, since-sound}
 use Rattle.heap.proofs.Storing.{map-set}
-use Rattle.heap_calls.proofs.Allocating.{alloc-none, alloc-free, alloc-grow, alloc-full, free-sound, grow-sound}
-use Rattle.object_door.specs.ObjectCalls.{is_kind, allocating}
+use Rattle.heap_ops.proofs.HeapCallsLaws.Allocating.{alloc-none, alloc-free, alloc-grow, alloc-full, free-sound, grow-sound}
+use Rattle.heap_ops.specs.Placing.Calls.{is_kind, allocating}
 use Rattle.rehearsal.specs.Runs.{Told}
 use Rattle.rehearsal.specs.Machine.{Object, Machine, lengths, inserted, paid, issued, telling, allocs}
 use Rattle.rehearsal.specs.OnHeap.{told}

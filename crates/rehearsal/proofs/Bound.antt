@@ -5,11 +5,11 @@ use Rattle.word.specs.Result.{Result, ok, refused}
 use Rattle.word.specs.Inner.Number.{number}
 use Rattle.text.specs.Text.{decimal, line, All}
 use Rattle.text.proofs.Laws.{decimal-length}
-use Rattle.ty.specs.Types.{Table}
+use Rattle.type_table.specs.Rows.Types.{Table}
 use Rattle.heap.specs.State.{Slot, State, live, data_of, data_size, with_free}
 use Rattle.heap.specs.Calls.{Changed, refuse, charged, grown, last, but_last, placed as at_place, alloc_from}
 use Rattle.collection.specs.Swept.{live_size}
-use Rattle.object_door.specs.ObjectCalls.{is_kind, allocating}
+use Rattle.heap_ops.specs.Placing.Calls.{is_kind, allocating}
 use Rattle.rehearsal.specs.Lines.{Line, alloc, store, drop}
 use Rattle.rehearsal.specs.Runs.{World, held_at, handles, Run, ends, unless, swept, collecting, placed, allocating as allocs, wrote, storing, dropping, does, after, starting, rehearsed, figures_line, figures_text}
 use Rattle.rehearsal.specs.Machine.{Machine, collects, stores}

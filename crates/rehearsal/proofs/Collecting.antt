@@ -6,13 +6,13 @@ use Rattle.word.proofs.Bools.{bool-ext, true-false}
 use Rattle.word.specs.Lists.{has}
 use Rattle.text.proofs.Laws.{none-not-some, some_inj}
 use Rattle.handle.specs.Handle.{packed}
-use Rattle.ty.specs.Types.{Table}
-use Rattle.trace.specs.Places.{handles_of}
+use Rattle.type_table.specs.Rows.Types.{Table}
+use Rattle.tracing.specs.Trace.Places.{handles_of}
 use Rattle.heap.specs.State.{Slot, State, no_slot, slot_at, live, last_generation, worn}
 use Rattle.heap.specs.Calls.{resolve, released}
-use Rattle.reach.specs.Reach.{Graph, Starts, Reached, UntraceableFrom, ◌∈◌}
-use Rattle.reach.specs.Marking.{State as Marks, marking}
-use Rattle.reach.proofs.Sound.{reached-first, reached-next, reached-ind, refused as stuck-exactly, lost as lost-exactly}
+use Rattle.reachability.specs.Reach.Reach.{Graph, Starts, Reached, UntraceableFrom, ◌∈◌}
+use Rattle.reachability.specs.Reach.Marking.{State as Marks, marking}
+use Rattle.reachability.proofs.ReachLaws.Sound.{reached-first, reached-next, reached-ind, refused as stuck-exactly, lost as lost-exactly}
 use Rattle.collection.specs.Swept.{swept, goes, dropped}
 use Rattle.heap.proofs.Keeping.{live_inside}
 use Rattle.collection.proofs.Dropping.{swept_slot}
@@ -28,7 +28,7 @@ use Rattle.rehearsal.proofs.Objects.{object_of, objects, objects-sizes, swept_fr
 use Rattle.rehearsal.proofs.Relation.{ages, machine_of, Good, Stands, few, resolved-handle, handle-resolves, looks, resolved-look, look-seen}
 use Rattle.rehearsal.proofs.Allocating.{step_small}
 use Rattle.rehearsal.proofs.Storing.{both_by}
-use Rattle.reach.proofs.Visiting.{∈-left, ∈-cases}
+use Rattle.reachability.proofs.ReachLaws.Visiting.{∈-left, ∈-cases}
 use native.Mathlib.Omega.{arith}
 use mathlib.Core.Bool.{Bool, true, false, not}
 use mathlib.Core.List.{List, [], ◌++◌, append-nil}

@@ -3,17 +3,17 @@ use Prim.Native.Nat.{ℕ, ◌+◌}
 use Rattle.word.specs.Le.{le, bytes}
 use Rattle.word.specs.Put.{put}
 use Rattle.handle.specs.Handle.{packed, tag_of, index_of, generation_of, resolve_by}
-use Rattle.ty.specs.Types.{Table}
+use Rattle.type_table.specs.Rows.Types.{Table}
 use Rattle.text.specs.Text.{ascii, decimal, digits, hex, hex_digit, line}
 use Rattle.heap.specs.State.{times}
 use Rattle.heap.specs.Calls.{new, alloc_from, resolve, write, recycle}
-use Rattle.object_door.specs.ObjectCalls.{allocating}
-use Rattle.reach.specs.Marking.{marking, drained, visit, follow}
+use Rattle.heap_ops.specs.Placing.Calls.{allocating}
+use Rattle.reachability.specs.Reach.Marking.{marking, drained, visit, follow}
 use Rattle.collection.specs.Swept.{swept, drop_unmarked, dropped, drop_slots, live_size}
 use Rattle.collection.specs.Collecting.{collected}
-use Rattle.ty.specs.Walks.{handles_at, handles_by}
-use Rattle.ty.specs.DescSize.{desc_at, desc_by}
-use Rattle.trace.specs.Places.{handles_of, kind_places, object_places, handles_places, words_at, eight_apart}
+use Rattle.type_table.specs.Rows.Walks.{handles_at, handles_by}
+use Rattle.type_table.specs.Rows.DescSize.{desc_at, desc_by}
+use Rattle.tracing.specs.Trace.Places.{handles_of, kind_places, object_places, handles_places, words_at, eight_apart}
 use Rattle.rehearsal.specs.Lines.{Line, alloc, store, drop, line_text, lines_text}
 use Rattle.rehearsal.specs.Runs.{Figures, rehearsed, after, does, collecting, allocating as allocs, figures_line}
 use Rattle.rehearsal.specs.OnHeap.{heaped, fresh, collects_heap, stores_heap}

@@ -15,7 +15,7 @@ use Rattle.text.proofs.Laws.{none-not-some, some_inj}
 use Rattle.std.specs.List.{concat}
 use mathlib.Core.Logic.{⊎_elim}
 use Rattle.word.proofs.Bools.{true-false, or_cases, or_left, or_right, and_both, both-and}
-use Rattle.ty.specs.Types.{Table}
+use Rattle.type_table.specs.Rows.Types.{Table}
 use Rattle.heap.specs.State.{Slot, no_slot, live, data_size, data_of, bit, times}
 use Rattle.heap.specs.Calls.{step, released}
 use Rattle.word.specs.Lists.{has}

@@ -19,8 +19,8 @@ use Rattle.heap.specs.State.{Slot, State, no_slot, slot_at, live}
 use Rattle.heap.specs.Calls.{Changed, done, on_slot, write, resolve, rewritten, with_slot}
 use Rattle.heap.proofs.Sound.{Sound}
 use Rattle.heap.proofs.Keeping.{at_same, at_other}
-use Rattle.heap_edit.proofs.Cases.{write-beyond, write_done}
-use Rattle.heap_edit.proofs.Soundness.{write-sound}
+use Rattle.heap_ops.proofs.HeapEditLaws.Cases.{write-beyond, write_done}
+use Rattle.heap_ops.proofs.HeapEditLaws.Soundness.{write-sound}
 use Rattle.heap.proofs.Keeping.{live_inside}
 use Rattle.rehearsal.specs.Machine.{Object, Machine, look, stored, stored_at, with_objects, stores_into, stores}
 use Rattle.rehearsal.specs.OnHeap.{left, stores_heap}

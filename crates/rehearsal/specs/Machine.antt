@@ -8,12 +8,12 @@ use Rattle.word.specs.Num.{saturating}
 use Rattle.word.specs.Put.{put}
 use Rattle.word.specs.Result.{ok, refused}
 use Rattle.handle.specs.Handle.{packed, index_of}
-use Rattle.ty.specs.Types.{Table}
-use Rattle.trace.specs.Places.{handles_of}
+use Rattle.type_table.specs.Rows.Types.{Table}
+use Rattle.tracing.specs.Trace.Places.{handles_of}
 use Rattle.heap.specs.State.{last_generation}
 use Rattle.heap.specs.Calls.{step, last, but_last, type_for}
 use Rattle.word.specs.Lists.{has}
-use Rattle.reach.specs.Reach.{Graph, Starts, Reached}
+use Rattle.reachability.specs.Reach.Reach.{Graph, Starts, Reached}
 use Rattle.rehearsal.specs.Runs.{Told, World}
 
 pub record Object : Type 0 where

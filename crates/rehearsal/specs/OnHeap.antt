@@ -4,10 +4,10 @@ use Rattle.std.specs.Prelude.{ℕ, List, []}
 use Rattle.std.proofs.Math.Option.{Option, none, some}
 use Rattle.word.specs.Le.{bytes as bytes_of}
 use Rattle.word.specs.Result.{Result, ok, refused}
-use Rattle.ty.specs.Types.{Table}
+use Rattle.type_table.specs.Rows.Types.{Table}
 use Rattle.heap.specs.State.{State}
 use Rattle.heap.specs.Calls.{Changed, on_slot, write, resolve, gc_due, new}
-use Rattle.object_door.specs.ObjectCalls.{allocating}
+use Rattle.heap_ops.specs.Placing.Calls.{allocating}
 use Rattle.collection.specs.Swept.{live_size}
 use Rattle.collection.specs.Shown.{shown}
 use Rattle.collection.specs.Collected.{graph, starts}

@@ -1,10 +1,12 @@
 // Runs a script of calls from standard input through the front door, one answer a line.
 #![tactic(auto)]
 
-use replay_lines::{LONGEST, State};
+use crate::lines::{LONGEST, State};
 use std::alloc::Global;
 use std::io;
 use std::io::{BufRead, Read};
+
+mod lines; // a line, sent by its first word to a group of commands; what is kept from line to line
 
 // Reads a line without its end; none where the input has ended. Of one that is too long the first `LONGEST` bytes are kept, and the rest is passed over.
 fn read_line(reader: &mut impl BufRead, alloc: Global) -> io::Result<Option<Vec<u8>>> {

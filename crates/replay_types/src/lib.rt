@@ -1,14 +1,19 @@
+// For the program `replay`: the commands on the type table and on the function.
+//
 // The commands of the program `replay` that ask about the type table: about a type, or about a frame by its map.
 #![tactic(auto)]
 
-use answers::{List, front, put_answer, put_told};
-use fields::Fields;
-use protocol::{Fault, HALF, NoCommand};
 use refusal::Answer;
-use replay_kept::table::Table;
+use replay_state::kept::table::Table;
+use replay_text::answers::{List, front, put_answer, put_told};
+use replay_text::fields::Fields;
+use replay_text::protocol::{Fault, HALF, NoCommand};
 use std::io;
 use std::str::FromStr;
 use yexwalu::{handles, types};
+
+pub mod live; // the registers live at a safepoint, or at all of them
+pub mod table_texts; // a type table's text, read and written
 
 #[derive(Clone, Copy)]
 pub enum Question {

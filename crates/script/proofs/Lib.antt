@@ -3,3 +3,4 @@ pub mod Lining
 pub mod Scripts
 pub mod Finding
 pub mod Refusing
+pub mod RunLaws

@@ -10,7 +10,7 @@ use Rattle.word.specs.Result.{Result, ok, refused}
 use Rattle.handle.specs.Handle.{tag_of, index_of, generation_of, resolve_by}
 use Rattle.heap.specs.State.{State, live, slot_at, data_size, with_free}
 use Rattle.heap.specs.Calls.{Changed, done, refuse, charged, placed, grown, last, but_last, alloc_from, resolve, on_slot, take_slot, free}
-use Rattle.object_door.specs.ObjectCalls.{is_kind, allocating}
+use Rattle.heap_ops.specs.Placing.Calls.{is_kind, allocating}
 
 abbrev pub Numbered : {A : Type 0} → Result A → Type 0
 Numbered (ok a) = Unit

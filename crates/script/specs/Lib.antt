@@ -2,3 +2,4 @@ pub mod Script
 pub mod Calls
 pub mod Reading
 pub mod Inner
+pub mod Run

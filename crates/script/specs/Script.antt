@@ -5,7 +5,7 @@ use Rattle.word.specs.Result.{Result, ok, refused}
 use Rattle.text.specs.Text.{newline}
 use Rattle.heap.specs.State.{State}
 use Rattle.heap.specs.Calls.{Changed, refuse, done, free, seal as sealed}
-use Rattle.object_door.specs.ObjectCalls.{allocating, recycling}
+use Rattle.heap_ops.specs.Placing.Calls.{allocating, recycling}
 use Rattle.script.specs.Calls.{Call, alloc, take, seal, recycle}
 use Rattle.script.specs.Reading.{call_of}
 

@@ -1,3 +1,5 @@
+// A script of calls as text, and how its lines are run.
+//
 // The lines of a script of calls on a heap, read one at a time.
 #![tactic(auto)]
 
@@ -5,6 +7,8 @@ ghost use Rattle.std.specs.Prelude.{◌≡◌, ◌≤◌, length, drop};
 ghost use Rattle.script.specs.Script.{begins_call};
 ghost use Rattle.script.specs.Reading.{alloc_format, read_take, read_call};
 ghost use Rattle.script.specs.Inner.Found.{LineRead, AllocRead};
+
+pub mod run; // the lines run one by one, until one is refused or bad
 
 // A line `alloc`: type, kind, and data that stands in hexadecimal from `from` on.
 // A line tells places in a text that goes beside it.

@@ -9,10 +9,10 @@ use lib.Seq.{drop-drop}
 use borrow.Author.Tests.{le-ltb}
 use Rattle.word.specs.Result.{Result, refused}
 use Rattle.word.proofs.Bools.{positive}
-use Rattle.figures.specs.declared.Figures.{Figures}
+use Rattle.shelves.specs.declared.counted.Figures.{Figures}
 use Rattle.std.specs.Prelude.{Result as Outcome}
-use Rattle.figures.specs.Figures.{page_figures}
-use Rattle.figures.specs.Inner.Counting.{shown_as}
+use Rattle.shelves.specs.Counted.Figures.{page_figures}
+use Rattle.shelves.specs.Counted.Inner.Counting.{shown_as}
 use Rattle.shelves.specs.declared.At.{At}
 use Rattle.shelves.specs.declared.Next.{Next}
 use Rattle.shelves.specs.declared.Next.TheVariants.{Still, Whole, Passed}

@@ -14,7 +14,7 @@ use Rattle.word.specs.Put.{put}
 use Rattle.word.specs.Result.{Result, refused}
 use Rattle.word.proofs.PutLaws.{take_put}
 use Rattle.word.proofs.Bools.{by_size}
-use Rattle.figures.specs.declared.Figures.{Figures}
+use Rattle.shelves.specs.declared.counted.Figures.{Figures}
 use Rattle.shelves.specs.declared.At.{At}
 use Rattle.shelves.specs.declared.At.TheVariants.{Line, Page as InPage, Passing, Over}
 use Rattle.shelves.specs.declared.Next.{Next}

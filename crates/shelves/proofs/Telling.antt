@@ -16,11 +16,11 @@ use Rattle.text.specs.Inner.Puts.{Puts}
 use Rattle.text.specs.Inner.Wrote.{Wrote}
 use Rattle.text.specs.declared.output.Out.{Out}
 use Rattle.text.proofs.Putting.{puts-puts}
-use Rattle.figures.specs.declared.Figures.{Figures}
+use Rattle.shelves.specs.declared.counted.Figures.{Figures}
 use Rattle.std.specs.Prelude.{Result as Outcome}
-use Rattle.figures.specs.Figures.{no_figures, merge, total, figures_line}
-use Rattle.figures.specs.Inner.Counting.{Small, shown_as, line_of}
-use Rattle.figures.proofs.Totals.{merge_none, none-merge, merge-assoc}
+use Rattle.shelves.specs.Counted.Figures.{no_figures, merge, total, figures_line}
+use Rattle.shelves.specs.Counted.Inner.Counting.{Small, shown_as, line_of}
+use Rattle.shelves.proofs.CountedLaws.Totals.{merge_none, none-merge, merge-assoc}
 use Rattle.shelves.specs.declared.At.{At}
 use Rattle.shelves.specs.declared.At.TheVariants.{Line, Page as InPage, Passing, Over}
 use Rattle.shelves.specs.declared.Shelf.{Shelf}

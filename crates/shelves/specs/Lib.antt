@@ -2,3 +2,4 @@
 pub mod Shelf
 pub mod Steps
 pub mod Inner
+pub mod Counted

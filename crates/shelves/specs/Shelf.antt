@@ -3,8 +3,8 @@
 use Rattle.std.specs.Prelude.{ℕ, zero, suc, ◌+◌, ◌-◌, ◌*◌, Bool, ◌&&◌, ◌||◌, List, [], ◌∷◌, ◌++◌, map, eqb, ltb, leb, length, take, drop, if◌then◌else◌}
 use Rattle.word.specs.Result.{Result, ok, refused}
 use Rattle.text.specs.Text.{ascii, newline}
-use Rattle.figures.specs.declared.Figures.{Figures}
-use Rattle.figures.specs.Figures.{no_figures, total, page_figures, figures_line}
+use Rattle.shelves.specs.declared.counted.Figures.{Figures}
+use Rattle.shelves.specs.Counted.Figures.{no_figures, total, page_figures, figures_line}
 
 -- THE INPUT
 

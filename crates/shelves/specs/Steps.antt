@@ -1,11 +1,11 @@
 -- What is left to be printed, by where a run stands; the contracts of `begin`, `go_on` and `finish` say that a step leaves it as it is, but for what it printed.
 use Rattle.std.specs.Prelude.{ℕ, ◌+◌, ◌-◌, ◌*◌, ◌^◌, ◌≤◌, ◌<◌, Bool, List, [], ◌∷◌, ◌++◌, map, ◌≡◌, ltb, length, take, drop, if◌then◌else◌}
 use Rattle.word.specs.Result.{Result, refused}
-use Rattle.figures.specs.declared.Figures.{Figures}
+use Rattle.shelves.specs.declared.counted.Figures.{Figures}
 use Rattle.shelves.specs.declared.At.{At}
 use Rattle.shelves.specs.declared.At.TheVariants.{Line, Page as InPage, Passing, Over}
 use Rattle.shelves.specs.declared.Shelf.{Shelf}
-use Rattle.figures.specs.Figures.{merge, total, figures_line}
+use Rattle.shelves.specs.Counted.Figures.{merge, total, figures_line}
 use Rattle.shelves.specs.Shelf.{length_line, by_bytes, by_line, pages_in, shown, answers_in, answer_lines, accepted, shelf_text}
 
 -- what follows p bytes of a page that are passed over

@@ -1,15 +1,18 @@
+// A shelf of pages as it comes in: length lines, pages, what each shows, and the totals.
+//
 // Figures for a whole shelf: what each page of an input shows, and the totals over all that are accepted. A run goes through the input as it comes: `begin`, `go_on` with each
 // part of it, `finish`. Their contracts say that what they print is, put together, the text that `shelf_text` gives for the whole input.
 #![tactic(auto)]
 
 ghost use Rattle.std.specs.Prelude.{◌≡◌, ◌||◌, List, ℕ, ◌+◌, ◌*◌, ◌≤◌, length, min, eqb, ltb};
-ghost use Rattle.figures.specs.Inner.Counting.{line_of, Small};
+ghost use Rattle.shelves.specs.Counted.Inner.Counting.{line_of, Small};
 ghost use Rattle.shelves.specs.Inner.Steps.{Begins, Reads, Takes, Due, After, Answers, SamePage, is_over, is_cut_off};
 ghost use Rattle.shelves.specs.Steps.{GoodAt, Good, Goes, Begun, Ends};
 
-use figures::{Figures, Memory};
+use crate::counted::{Figures, Memory};
 use text::output::Out;
 
+pub mod counted; // what a page shows: objects, bytes, the largest; and the line of it
 mod reading;
 
 pub use reading::Reading;
@@ -97,7 +100,7 @@ fn take_page(n: usize, have: usize, input: &[u8], held: &mut [u8; 32768]) -> Tak
     ensures { Takes (At.Page n have) held.old input.now result.next result.used held.new }
 {
     let used = (n - have).min(input.len());
-    memory::copy(held, have, &input[..used]);
+    word::memory::copy(held, have, &input[..used]);
     let now = have + used;
     if now < n {
         return Taken {
@@ -222,7 +225,7 @@ fn answer(shelf: Shelf, shown: Result<Figures, u64>, out: &mut Out) -> Shelf
     ensures same_page { SamePage out.old out.new }
 {
     let (number, figures) = line_of(shown);
-    figures::put_line(out, shelf.pages + 1, number, figures);
+    counted::put_line(out, shelf.pages + 1, number, figures);
     shelf.after(figures)
 }
 
@@ -257,7 +260,7 @@ fn step(
             let shown = memory.show(&held[..n]);
             (answer(shelf, shown, out), used)
         }
-        Next::Passed => (answer(shelf, figures::no_page(), out), used),
+        Next::Passed => (answer(shelf, counted::no_page(), out), used),
     }
 }
 
@@ -322,9 +325,9 @@ impl Reading {
         let shelf = self.shelf;
         let mut page = Out { page: out, at: 0 };
         if is_cut_off(shelf.at, failed) {
-            figures::put_line(&mut page, shelf.pages + 1, 17, Figures::none());
+            counted::put_line(&mut page, shelf.pages + 1, 17, Figures::none());
         }
-        figures::put_line(&mut page, 0, 0, shelf.total);
+        counted::put_line(&mut page, 0, 0, shelf.total);
         page.at
     }
 }

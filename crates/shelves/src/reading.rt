@@ -3,7 +3,7 @@ ghost use Rattle.shelves.specs.Steps.{Good};
 ghost use Rattle.shelves.specs.Inner.Props.{good_prop};
 
 use crate::Shelf;
-use figures::Memory;
+use crate::counted::Memory;
 
 // A run, the bytes of a page that are held, and what pages are read into.
 #[derive(Drop)]

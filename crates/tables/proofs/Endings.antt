@@ -4,7 +4,7 @@ use Rattle.text.specs.Format.{Format, read_all}
 use Rattle.text.proofs.Laws.{none-not-some, some_inj}
 use Rattle.text.proofs.Getting.{suffix}
 use Rattle.std.specs.Prelude.{Option, Some, None}
-use Rattle.page_parser.proofs.Reading.{all_none, all-some, all_done}
+use Rattle.page_check.proofs.PageParserLaws.Reading.{all_none, all-some, all_done}
 use Rattle.tables.specs.Inner.Answer.{ending, GotAll, Got}
 use Rattle.text.specs.Reading.{give, ◌>>=◌, Reader}
 use Rattle.text.specs.Inner.Right.{Right}

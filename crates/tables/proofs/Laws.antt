@@ -7,8 +7,8 @@ use Rattle.text.specs.Inner.Answer.{Stops}
 use Rattle.text.specs.Format.{bytes_line, after_literal, pair, times}
 use Rattle.text.specs.Inner.Right.{Right}
 use Rattle.text.proofs.Laws.{none-not-some, bind-some, some_inj, passed, decimal-forth, decimal-back, literal-forth, literal-back, bytes-line-right, after-literal-right, pair-right, times-right, number-join, Listed, no-comma, no-newline}
-use Rattle.pages.specs.Reading.{whole}
-use Rattle.pages.proofs.Laws.{whole-some, flat_map-same}
+use Rattle.page_format.specs.Pages.Reading.{whole}
+use Rattle.page_format.proofs.PagesLaws.Laws.{whole-some, flat_map-same}
 use Rattle.tables.specs.Table.{Row, Named, field, name_text, row_line, count_names, type_names, field_names, constant_names, bytes_name, counts_line, table_text, plain, Plain, RowWithin, most64, most32, Within}
 use Rattle.tables.specs.Reading.{up_to, read_name, name_format, row_format, Counts, counts_format, rows_format, bytes_format, Body, table_format, named_of, read_table}
 use Rattle.tables.specs.Inner.Saved.{saved}

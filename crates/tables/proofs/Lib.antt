@@ -3,3 +3,6 @@ pub mod Endings
 pub mod Naming
 pub mod Rowing
 pub mod NamedLists
+pub mod WriterLaws
+pub mod CheckLaws
+pub mod ReaderLaws

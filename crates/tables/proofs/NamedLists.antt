@@ -10,8 +10,8 @@ use Rattle.text.specs.Reading.{give, ◌>>=◌}
 use Rattle.text.specs.Format.{pair, times}
 use Rattle.text.specs.Inner.Right.{Right}
 use Rattle.text.proofs.Laws.{bind-some, some_inj, pair-right, times-right}
-use Rattle.pages.specs.Reading.{whole}
-use Rattle.pages.proofs.Laws.{whole-some}
+use Rattle.page_format.specs.Pages.Reading.{whole}
+use Rattle.page_format.proofs.PagesLaws.Laws.{whole-some}
 use Rattle.tables.specs.Table.{Named, Plain, name_text}
 use Rattle.tables.specs.Reading.{name_format, names_format, named_in}
 use Rattle.tables.specs.Lists.{Names, with_names}

@@ -4,7 +4,7 @@ use Rattle.text.specs.Text.{decimal, comma, All}
 use Rattle.text.specs.Inner.Puts.{Puts}
 use Rattle.text.proofs.Laws.{decimal-length}
 use Rattle.text.proofs.Putting.{puts-at, puts_none}
-use Rattle.pages.proofs.Writing.{flat-more-length, flat_append, flat-room, puts-more}
+use Rattle.page_format.proofs.PagesLaws.Writing.{flat-more-length, flat_append, flat-room, puts-more}
 use Rattle.tables.specs.Table.{Row, RowWithin, field, name_text, row_line}
 use Rattle.tables.specs.Lists.{rows_of, numbers_in}
 use mathlib.Core.List.{List, [], ◌∷◌, ◌++◌, append-nil, flat_map}

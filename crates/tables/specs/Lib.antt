@@ -3,3 +3,6 @@ pub mod Table
 pub mod Lists
 pub mod Reading
 pub mod Inner
+pub mod Writer
+pub mod Check
+pub mod Reader

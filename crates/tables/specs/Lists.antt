@@ -2,7 +2,7 @@
 -- constants'.
 use Rattle.std.specs.Prelude.{ℕ, Bool, take, drop}
 use mathlib.Core.List.{List, [], ◌∷◌, ◌++◌, flat_map}
-use Rattle.ty.specs.Check.{table_good}
+use Rattle.type_table.specs.Rows.Check.{table_good}
 use Rattle.tables.specs.Table.{Row, Named, name_text}
 
 unfoldable pub numbers_in : List Row → List ℕ

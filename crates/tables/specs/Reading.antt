@@ -6,7 +6,7 @@ use Rattle.std.proofs.Math.Option.{Option, none, some}
 use Rattle.text.specs.Text.{decimal, newline, comma}
 use Rattle.text.specs.Reading.{◌>>=◌, Reader, give, read_field}
 use Rattle.text.specs.Format.{Format, bytes_line, after_literal, pair, times}
-use Rattle.pages.specs.Reading.{whole}
+use Rattle.page_format.specs.Pages.Reading.{whole}
 use Rattle.tables.specs.Table.{Row, Named, name_text, count_names, type_names, field_names, constant_names, bytes_name, plain, most64, most32}
 use Rattle.tables.specs.Lists.{Names, with_names}
 

@@ -1,9 +1,15 @@
+// A type table as text: definitions, formats, both round trips, the writer and the reader.
+//
 // A type table as text: definitions and laws, and the names in it.
 #![tactic(auto)]
 
 ghost use Rattle.std.specs.Prelude.{◌≡◌, ◌+◌, ◌-◌, ◌≤◌, ◌<◌, length, drop};
 ghost use Rattle.tables.specs.Reading.{read_name};
 ghost use Rattle.tables.specs.Inner.Answer.{ending, Got};
+
+pub mod check; // the first pass over a text: what it is refused for
+pub mod reader; // the second pass: a text into lent lists
+pub mod writer; // the writer
 
 // Where a name and the line's end after it end, from `at` on.
 pub fn get_name(s: &[u8], at: usize) -> Option<usize>

@@ -1,3 +1,5 @@
+// Text as bytes, and byte planes.
+//
 // Text as bytes: decimal numbers without spare zeros, lowercase hexadecimal, literals.
 #![tactic(auto)]
 
@@ -11,6 +13,9 @@ ghost use Rattle.std.proofs.Math.Option.{none, some};
 
 pub mod hex;
 pub mod output;
+pub mod planes; // byte planes of eight-byte words: written in hexadecimal, restored in place
+// Text that goes into a list from a place on: what fits is written, the rest is counted
+pub mod sheet;
 
 use hex::Hex;
 

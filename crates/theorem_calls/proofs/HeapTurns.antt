@@ -14,15 +14,15 @@ use Rattle.refusal.specs.declared.Refusal.{Refusal}
 use Rattle.refusal.specs.declared.Refusal.TheVariants.{BrokenHeap, Scratch as ScratchShort, NoMap}
 use Rattle.heap.specs.Lent.{Lent}
 use Rattle.heap.specs.WellFormed.{well_formed}
-use Rattle.code.specs.Lent.{function, need}
-use Rattle.flow.specs.Function.{safepoint}
-use Rattle.door.specs.HeapCalls.{admitted, scratch_after, zeros, Outcome, outcome_of, Entry, test}
-use Rattle.collect_door.specs.Calls.{Asked, joined_call, joined_tests, joining, roomy, input_tests}
-use Rattle.collect_door.specs.Demand.{done}
-use Rattle.collect_door.proofs.Theorem.{has_done, demand}
+use Rattle.control_flow.specs.Code.Lent.{function, need}
+use Rattle.control_flow.specs.Flow.Function.{safepoint}
+use Rattle.validate.specs.Door.HeapCalls.{admitted, scratch_after, zeros, Outcome, outcome_of, Entry, test}
+use Rattle.yexwalu.specs.Collections.Calls.{Asked, joined_call, joined_tests, joining, roomy, input_tests}
+use Rattle.yexwalu.specs.Collections.Demand.{done}
+use Rattle.yexwalu.proofs.CollectionsLaws.Theorem.{has_done, demand}
 use Rattle.theorems.specs.CollectedTwice.{Memory, heap_in, Scratch, lists, Joined}
 use Rattle.theorems.proofs.CollectedTwice.{collected-twice}
-use Rattle.wanted_door.proofs.Turns.{zeros-twice, enough-again, calling-left, calling-again}
+use Rattle.yexwalu.proofs.RootListsLaws.Turns.{zeros-twice, enough-again, calling-left, calling-again}
 
 -- ---- a joined collection, and the same again
 

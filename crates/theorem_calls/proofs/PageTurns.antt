@@ -15,12 +15,12 @@ use Rattle.refusal.specs.declared.Answer.{Answer}
 use Rattle.refusal.specs.declared.Refusal.TheVariants.{BrokenHeap, Scratch as ScratchShort}
 use Rattle.heap.specs.Lent.{Lent, view, slot_count}
 use Rattle.heap.specs.WellFormed.{well_formed}
-use Rattle.pages.specs.Form.{Form, written, form_of}
-use Rattle.pages.specs.Page.{page_text}
-use Rattle.pages.specs.Answer.{text_answer, text_out}
-use Rattle.page_parser.specs.Contents.{form_in}
-use Rattle.door.specs.HeapCalls.{Asked, enough, admitted, heap_tests, scratch_after, whether, Entry, Outcome, outcome_of, asked_of, zeros}
-use Rattle.page_door.specs.Page.{reading}
+use Rattle.page_format.specs.Pages.Form.{Form, written, form_of}
+use Rattle.page_format.specs.Pages.Page.{page_text}
+use Rattle.page_format.specs.Pages.Answer.{text_answer, text_out}
+use Rattle.page_check.specs.PageParser.Contents.{form_in}
+use Rattle.validate.specs.Door.HeapCalls.{Asked, enough, admitted, heap_tests, scratch_after, whether, Entry, Outcome, outcome_of, asked_of, zeros}
+use Rattle.yexwalu.specs.Pages.Page.{reading}
 use Rattle.theorems.specs.PageCalls.{Writes, Reads, Scratch, WroteText, met}
 use Rattle.theorems.specs.PageLength.{Measures, Both}
 use Rattle.theorems.specs.HeapPageHeap.{Trip}
@@ -29,7 +29,7 @@ use Rattle.theorems.proofs.PageHeapPage.{kept, read-written}
 use Rattle.theorems.proofs.PageReading.{reads-few}
 use Rattle.theorems.proofs.PageWriting.{no-scratch, not-formed, is-ready, refused-by, fits-answer, short-answer}
 use Rattle.theorem_calls.specs.PageTurns.{planes_met}
-use Rattle.wanted_door.proofs.Turns.{tests-again, asking-left, asking-again}
+use Rattle.yexwalu.proofs.RootListsLaws.Turns.{tests-again, asking-left, asking-again}
 
 -- what the writer does with scratch that a call with the same tests left
 module _ (l : Lent) (p : Bool) (out marks work marks' work' out' marks'' work'' : List ℕ) (w : Answer)

@@ -2,8 +2,8 @@
 use Rattle.std.specs.Prelude.{◌≡◌, Bool, List, ℕ, leb}
 use Rattle.refusal.specs.declared.Answer.{Answer}
 use Rattle.heap.specs.Lent.{Lent, view}
-use Rattle.pages.specs.Form.{written}
-use Rattle.pages.specs.Page.{page_text}
+use Rattle.page_format.specs.Pages.Form.{written}
+use Rattle.page_format.specs.Pages.Page.{page_text}
 use Rattle.theorems.specs.PageCalls.{Scratch, Room, SameSizes, TookIn, WroteText, met, unlogged_lent}
 use Rattle.theorems.specs.PageLength.{TakesExactly, Alike}
 

@@ -2,11 +2,12 @@
 
 ghost use Rattle.std.specs.Prelude.{◌≡◌};
 ghost use Rattle.heap.specs.Lent.{lent};
-ghost use Rattle.collect_door.specs.Calls.{joined_call};
+ghost use Rattle.yexwalu.specs.Collections.Calls.{joined_call};
 ghost use Rattle.theorems.specs.CollectedTwice.{Joined};
 
-use door::Done;
 use heap::Heap;
+use validate::door::Done;
+use yexwalu::collections;
 
 // A joined collection, and the same once more: the second gives the same answer, and leaves every
 // byte as the first left it.
@@ -82,11 +83,11 @@ pub fn collect_twice(
         (record { header = result.1.heap; narrow = narrow.new; wide = wide.new; pool = pool.new })
         (record { marks = marks.new; work = work.new; rows = rows.new }) }
 {
-    let first = collect_door::joined::yexwalu_collect_joined(
+    let first = collections::joined::yexwalu_collect_joined(
         types, fields, consts, bytes, heap, narrow, wide, pool, kinds, ends, refs, blocks, classes,
         pc, values, map, memory, pins, addresses, marks, work, rows,
     );
-    let second = collect_door::joined::yexwalu_collect_joined(
+    let second = collections::joined::yexwalu_collect_joined(
         types, fields, consts, bytes, first.heap, narrow, wide, pool, kinds, ends, refs, blocks,
         classes, pc, values, map, memory, pins, addresses, marks, work, rows,
     );

@@ -6,9 +6,11 @@ ghost use Rattle.theorems.specs.PageCalls.{Writes, Reads};
 ghost use Rattle.theorems.specs.PageLength.{Measures};
 ghost use Rattle.theorem_calls.specs.PageTurns.{planes_met, LengthThenPage, PageThenHeap, HeapThenPage};
 
-use door::Done;
 use heap::Heap;
+use page_format::widths;
 use refusal::Answer;
+use validate::door::Done;
+use yexwalu::pages;
 
 // The length of a heap's page is told, and then the page is written: exactly that many bytes. An
 // output that is one byte shorter is 7.
@@ -29,8 +31,8 @@ pub fn length_then_write(
     ensures exactly { LengthThenPage (lent heap narrow.now wide.now pool.now) planar
         out.old result.0 result.1 out.new }
 {
-    let size = page_door::yexwalu_page_length(heap, narrow, wide, pool, planar, marks, work);
-    let page = page_door::yexwalu_write_page(heap, narrow, wide, pool, planar, out, marks, work);
+    let size = pages::yexwalu_page_length(heap, narrow, wide, pool, planar, marks, work);
+    let page = pages::yexwalu_write_page(heap, narrow, wide, pool, planar, out, marks, work);
     (size, page)
 }
 
@@ -64,9 +66,9 @@ pub fn write_then_read(
         (lent result.1.heap other_narrow.new other_wide.new other_pool.new) }
 {
     widths::words(heap, narrow, wide, pool);
-    let page = page_door::yexwalu_write_page(heap, narrow, wide, pool, planar, out, marks, work);
+    let page = pages::yexwalu_write_page(heap, narrow, wide, pool, planar, out, marks, work);
     let size = page.first as usize;
-    let back = page_door::yexwalu_read_page(
+    let back = pages::yexwalu_read_page(
         other,
         other_narrow,
         other_wide,
@@ -98,10 +100,8 @@ pub fn read_then_write(
         out.old marks.old work.old result.1 out.new marks.new work.new }
     ensures same_page { HeapThenPage text.now out.old result.0.answer result.1 out.new }
 {
-    let back = page_door::yexwalu_read_page(heap, narrow, wide, pool, text, marks, work);
+    let back = pages::yexwalu_read_page(heap, narrow, wide, pool, text, marks, work);
     let planar = back.answer.second >= 2;
-    let page = page_door::yexwalu_write_page(
-        back.heap, narrow, wide, pool, planar, out, marks, work,
-    );
+    let page = pages::yexwalu_write_page(back.heap, narrow, wide, pool, planar, out, marks, work);
     (back, page)
 }

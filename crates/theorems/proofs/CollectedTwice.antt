@@ -17,14 +17,14 @@ use Rattle.heap.specs.Calls.{Changed}
 use Rattle.heap.specs.declared.Heap.{Heap}
 use Rattle.heap.proofs.Testing.{formed-tested}
 use Rattle.heap.proofs.Storing.{view-stored}
-use Rattle.code.specs.Lent.{function, need}
+use Rattle.control_flow.specs.Code.Lent.{function, need}
 use Rattle.collection.proofs.Twice.{joined-twice}
-use Rattle.door.specs.HeapCalls.{admitted, enough, zeros, Outcome, outcome_of}
-use Rattle.door.specs.HeapCalls.{ready}
-use Rattle.door.proofs.Entering.{all_hold, calling-ready}
-use Rattle.collect_door.specs.Calls.{Asked, table, frame, pinning, roomy, joined_tests, joining}
-use Rattle.collect_door.specs.Demand.{done, Demand}
-use Rattle.collect_door.proofs.Theorem.{has_done, demand}
+use Rattle.validate.specs.Door.HeapCalls.{admitted, enough, zeros, Outcome, outcome_of}
+use Rattle.validate.specs.Door.HeapCalls.{ready}
+use Rattle.validate.proofs.DoorLaws.Entering.{all_hold, calling-ready}
+use Rattle.yexwalu.specs.Collections.Calls.{Asked, table, frame, pinning, roomy, joined_tests, joining}
+use Rattle.yexwalu.specs.Collections.Demand.{done, Demand}
+use Rattle.yexwalu.proofs.CollectionsLaws.Theorem.{has_done, demand}
 use Rattle.theorems.specs.CollectedTwice.{Memory, heap_in, Scratch, NoShorter, lists, CollectedTwice}
 
 -- ---- lent memory and what lies there determine each other

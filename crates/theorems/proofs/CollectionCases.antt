@@ -1,15 +1,15 @@
 -- The two collections, worked out by the definitions. Assumes nothing.
 use mathlib.Core.Path.{refl}
-use Rattle.addresses.specs.Listed.{addresses_of, paired, slots_of}
-use Rattle.code.specs.View.{formed, view}
-use Rattle.collect_door.specs.Calls.{coded, roomy}
+use Rattle.collection.specs.Addresses.Listed.{addresses_of, paired, slots_of}
+use Rattle.control_flow.specs.Code.View.{formed, view}
+use Rattle.yexwalu.specs.Collections.Calls.{coded, roomy}
 use Rattle.collection.specs.Collecting.{collected}
 use Rattle.collection.specs.Joined.{joined, live_references, pins_at, registers_of, values_of}
 use Rattle.collection.specs.Swept.{drop_slots, drop_unmarked, dropped, live_size, swept}
-use Rattle.door.specs.HeapCalls.{admitted, calling, enough}
-use Rattle.flow.specs.Dataflow.{gen, kill, live_before, live_in, live_row, track}
-use Rattle.flow.specs.Function.{reads, safepoint, successors, valid, writes}
-use Rattle.frame.specs.Frame.{entries_of, entries_roots, frame_roots}
+use Rattle.validate.specs.Door.HeapCalls.{admitted, calling, enough}
+use Rattle.control_flow.specs.Flow.Dataflow.{gen, kill, live_before, live_in, live_row, track}
+use Rattle.control_flow.specs.Flow.Function.{reads, safepoint, successors, valid, writes}
+use Rattle.tracing.specs.Frame.Frame.{entries_of, entries_roots, frame_roots}
 use Rattle.handle.specs.Handle.{generation_of, index_of, packed, resolve_by, tag_of}
 use Rattle.heap.specs.Calls.{recycle, resolve}
 use Rattle.heap.specs.Lent.{header_of, slot_in, stored, view as heap_view}
@@ -17,13 +17,13 @@ use Rattle.heap.specs.Packing.{data_at, ends, pad}
 use Rattle.heap.specs.Same.{same_header, same_lent}
 use Rattle.heap.specs.State.{times}
 use Rattle.heap.specs.WellFormed.{fits, partitioned, retired_rightly, sound, sound_reclaim, sound_seals, sound_slot, well_formed}
-use Rattle.reach.specs.Marking.{drained, follow, marking, visit}
-use Rattle.trace.specs.Places.{handles_of, kind_places, object_places, places_at, places_by, words_at}
-use Rattle.ty.specs.Check.{all_of, good_type, good_type_at, small_at, table_good}
-use Rattle.ty.specs.DescSize.{desc_at, desc_by}
-use Rattle.ty.specs.View.{entry_at, entry_of, read_entry, read_ty, types_of}
-use Rattle.ty.specs.Walks.{handles_at, handles_by, unfold_at, unfold_by}
-use Rattle.ty.specs.Words.{word_of}
+use Rattle.reachability.specs.Reach.Marking.{drained, follow, marking, visit}
+use Rattle.tracing.specs.Trace.Places.{handles_of, kind_places, object_places, places_at, places_by, words_at}
+use Rattle.type_table.specs.Rows.Check.{all_of, good_type, good_type_at, small_at, table_good}
+use Rattle.type_table.specs.Rows.DescSize.{desc_at, desc_by}
+use Rattle.type_table.specs.Rows.View.{entry_at, entry_of, read_entry, read_ty, types_of}
+use Rattle.type_table.specs.Rows.Walks.{handles_at, handles_by, unfold_at, unfold_by}
+use Rattle.type_table.specs.Rows.Words.{word_of}
 use Rattle.word.specs.Le.{le}
 use Rattle.word.specs.Lists.{all, all_below, rising_from, tabulate}
 use Rattle.word.specs.Ones.{passing}

@@ -6,11 +6,11 @@ use Rattle.text.specs.Put.{put_text}
 use Rattle.refusal.specs.declared.Answer.{Answer}
 use Rattle.heap.specs.Lent.{Lent, header_of, stored, view, slot_count, pool_size}
 use Rattle.heap.proofs.Testing.{formed-tested}
-use Rattle.pages.specs.Form.{written}
-use Rattle.pages.specs.Page.{page_text}
+use Rattle.page_format.specs.Pages.Form.{written}
+use Rattle.page_format.specs.Pages.Page.{page_text}
 use Rattle.theorems.specs.PageCalls.{unlogged, unlogged_lent, Reads}
 use Rattle.theorems.specs.HeapPageHeap.{Trip, WrittenRead, WrittenReadSame}
-use Rattle.widths.proofs.Widths.{words-within, sound-part}
+use Rattle.page_format.proofs.WidthsLaws.Widths.{words-within, sound-part}
 use Rattle.theorems.proofs.PageReading.{page-taken, same-room}
 use Rattle.text.proofs.Putting.{taken_back}
 use Rattle.theorems.proofs.PageWriting.{Wrote, wrote}

@@ -1,6 +1,6 @@
 -- What `new` leaves and what `data` answers. Assumes nothing.
-use Rattle.object_door.proofs.Made.{new-made, new-formed}
-use Rattle.heap_door.proofs.Visible.{data-visible}
+use Rattle.yexwalu.proofs.ObjectsLaws.Made.{new-made, new-formed}
+use Rattle.yexwalu.proofs.QuestionsLaws.Visible.{data-visible}
 use Rattle.theorems.specs.Heaps.{NewSucceeds, NewFormed, DataVisible}
 
 pub new-succeeds : NewSucceeds

@@ -15,3 +15,4 @@ pub mod Shelf
 pub mod RootsCollected
 pub mod TableText
 pub mod Heaps
+pub mod ValueTextsLaws

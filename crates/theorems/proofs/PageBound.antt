@@ -1,10 +1,10 @@
 -- THE BOUND of a page. Assumes nothing.
 use native.Mathlib.Omega.{arith}
 use Rattle.heap.specs.Lent.{view}
-use Rattle.pages.specs.Form.{written}
-use Rattle.pages.proofs.Bound.{page-length}
+use Rattle.page_format.specs.Pages.Form.{written}
+use Rattle.page_format.proofs.PagesLaws.Bound.{page-length}
 use Rattle.theorems.specs.PageBound.{WrittenBound, BoundSuffices}
-use Rattle.widths.proofs.Widths.{words-within, sound-part}
+use Rattle.page_format.proofs.WidthsLaws.Widths.{words-within, sound-part}
 use Rattle.theorems.proofs.PageWriting.{wrote, writes-page}
 
 pub written-bound : WrittenBound

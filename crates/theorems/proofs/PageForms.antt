@@ -17,10 +17,10 @@ use Rattle.heap.specs.State.{State}
 use Rattle.heap.specs.Lent.{slot_count, pool_size}
 use Rattle.word.specs.Result.{ok}
 use Rattle.page_reader.specs.Reading.{left, in_range}
-use Rattle.pages.specs.Form.{Form, form_of, writes_width, written, earlier, heap_front, no_retired, heap_names, slot_front, narrow_writes, data_name, slot_names, free_name, quarantine_name, sealed_name}
-use Rattle.pages.specs.Page.{slot_line, value_line, retired_part, page_text, Within, Unsaved}
-use Rattle.pages.specs.Reading.{slot_format, Head, Body, state_of, head_of, body_of, whole, read_page}
-use Rattle.pages.proofs.Laws.{Head-good, Body-good, head-right, slot-right, last, head-prints, slot-prints, value-prints, flat_map-same, good-saved, within-read, whole-some, same-unsaved, read-written, written_read, read-exactly}
+use Rattle.page_format.specs.Pages.Form.{Form, form_of, writes_width, written, earlier, heap_front, no_retired, heap_names, slot_front, narrow_writes, data_name, slot_names, free_name, quarantine_name, sealed_name}
+use Rattle.page_format.specs.Pages.Page.{slot_line, value_line, retired_part, page_text, Within, Unsaved}
+use Rattle.page_format.specs.Pages.Reading.{slot_format, Head, Body, state_of, head_of, body_of, whole, read_page}
+use Rattle.page_format.proofs.PagesLaws.Laws.{Head-good, Body-good, head-right, slot-right, last, head-prints, slot-prints, value-prints, flat_map-same, good-saved, within-read, whole-some, same-unsaved, read-written, written_read, read-exactly}
 use Rattle.theorems.specs.EarlierPage.{earlier_heap_names, earlier_slot_names, earlier_body, earlier_format, earlier_read, earlier_verdict, earlier_into}
 use Rattle.theorems.specs.PageForms.{EveryFormRead, EarlierStillRead, EarlierReads, EarlierTakes, EarlierRefusesOthers, EarlierRefuses, EarlierRewritten, FormTold, FormsTold}
 use Rattle.word.proofs.ResultLaws.{not-refused}

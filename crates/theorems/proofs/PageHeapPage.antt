@@ -13,13 +13,13 @@ use Rattle.heap.specs.State.{State}
 use Rattle.heap.specs.Lent.{Lent, stored, view, slot_count, pool_size}
 use Rattle.heap.specs.WellFormed.{well_formed}
 use Rattle.heap.proofs.Storing.{view-stored}
-use Rattle.pages.specs.Form.{Form, written}
-use Rattle.pages.specs.Page.{page_text, brought}
-use Rattle.pages.proofs.Laws as pages
-use Rattle.page_parser.specs.Contents.{form_in, heap_in}
-use Rattle.page_parser.proofs.Assembly.{form-is, heap_is}
+use Rattle.page_format.specs.Pages.Form.{Form, written}
+use Rattle.page_format.specs.Pages.Page.{page_text, brought}
+use Rattle.page_format.proofs.PagesLaws.Laws as pages
+use Rattle.page_check.specs.PageParser.Contents.{form_in, heap_in}
+use Rattle.page_check.proofs.PageParserLaws.Assembly.{form-is, heap_is}
 use Rattle.page_reader.specs.Reading.{bits_met, names_met, read_into}
-use Rattle.door.specs.HeapCalls.{enough}
+use Rattle.validate.specs.Door.HeapCalls.{enough}
 use Rattle.theorems.specs.PageCalls.{Writes, Scratch, WroteText, done, met}
 use Rattle.theorems.specs.PageHeapPage.{TextRead, ReadFormed, ReadWritten}
 use Rattle.theorems.proofs.PageReading.{taken, room-formed, reads-enough, reads-few, answer-done}

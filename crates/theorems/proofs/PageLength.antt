@@ -14,12 +14,12 @@ use Rattle.refusal.specs.declared.Refusal.{Refusal}
 use Rattle.refusal.specs.declared.Answer.{Answer}
 use Rattle.heap.specs.Lent.{Lent, view, slot_count}
 use Rattle.heap.specs.WellFormed.{well_formed}
-use Rattle.pages.specs.Form.{written}
-use Rattle.pages.specs.Page.{page_text}
-use Rattle.door.specs.HeapCalls.{Asked, enough, admitted, heap_tests}
+use Rattle.page_format.specs.Pages.Form.{written}
+use Rattle.page_format.specs.Pages.Page.{page_text}
+use Rattle.validate.specs.Door.HeapCalls.{Asked, enough, admitted, heap_tests}
 use Rattle.std.specs.Prelude.{Err}
-use Rattle.door.specs.HeapCalls.{ready}
-use Rattle.door.proofs.Entering.{is-enough, asking-not, asking-ready}
+use Rattle.validate.specs.Door.HeapCalls.{ready}
+use Rattle.validate.proofs.DoorLaws.Entering.{is-enough, asking-not, asking-ready}
 use Rattle.theorems.specs.PageCalls.{done}
 use Rattle.theorems.specs.PageLength.{Measures, Both, TakesExactly, Alike, LengthTold, LengthExact, RefusedAlike}
 use Rattle.theorems.proofs.PageWriting.{no-scratch, not-formed, is-ready, not-zero, refused-by, fits-answer, fits_out, short-answer, short-out, put-start}

@@ -13,19 +13,19 @@ use Rattle.heap.proofs.Packing.{length-pad}
 use Rattle.heap.proofs.Seals.{seals-few}
 use Rattle.heap.proofs.Storing.{view-stored}
 use Rattle.heap.proofs.Testing.{stored-formed, formed-tested}
-use Rattle.pages.specs.Form.{Form}
-use Rattle.pages.specs.Page.{page_text, Within, moved, brought}
-use Rattle.pages.proofs.Laws.{read-written}
-use Rattle.page_parser.specs.Contents.{form_in}
+use Rattle.page_format.specs.Pages.Form.{Form}
+use Rattle.page_format.specs.Pages.Page.{page_text, Within, moved, brought}
+use Rattle.page_format.proofs.PagesLaws.Laws.{read-written}
+use Rattle.page_check.specs.PageParser.Contents.{form_in}
 use Rattle.page_check.specs.Verdict.{verdict}
-use Rattle.page_parser.proofs.Assembly.{form-is}
+use Rattle.page_check.proofs.PageParserLaws.Assembly.{form-is}
 use Rattle.page_reader.specs.Reading.{bits_met, names_met, in_range, Left, left, read_into}
 use Rattle.page_reader.proofs.Loaded.{passed, few-numbers}
-use Rattle.door.specs.HeapCalls.{Outcome, enough}
-use Rattle.door.proofs.Entering.{is-enough}
-use Rattle.page_door.specs.Page.{reading}
+use Rattle.validate.specs.Door.HeapCalls.{Outcome, enough}
+use Rattle.validate.proofs.DoorLaws.Entering.{is-enough}
+use Rattle.yexwalu.specs.Pages.Page.{reading}
 use Rattle.theorems.specs.PageCalls.{Reads, unlogged, Scratch, Room, SameSizes, TookIn}
-use Rattle.pages.specs.Reading.{read_page}
+use Rattle.page_format.specs.Pages.Reading.{read_page}
 use Rattle.word.proofs.ResultLaws.{not-refused}
 use mathlib.Core.Bool.{Bool, true, false, ◌&&◌}
 use mathlib.Core.List.{List}

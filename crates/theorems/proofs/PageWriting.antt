@@ -16,14 +16,14 @@ use Rattle.refusal.specs.declared.Answer.{Answer}
 use Rattle.refusal.specs.declared.Refusal.TheVariants.{Scratch as ScratchShort, BrokenHeap}
 use Rattle.heap.specs.Lent.{Lent, view}
 use Rattle.heap.specs.WellFormed.{well_formed}
-use Rattle.pages.specs.Form.{written}
-use Rattle.pages.specs.Page.{page_text}
-use Rattle.pages.specs.Answer.{text_answer, text_out}
-use Rattle.door.specs.HeapCalls.{Asked, enough, admitted, heap_tests, whether}
-use Rattle.door.specs.HeapCalls.{Entry}
+use Rattle.page_format.specs.Pages.Form.{written}
+use Rattle.page_format.specs.Pages.Page.{page_text}
+use Rattle.page_format.specs.Pages.Answer.{text_answer, text_out}
+use Rattle.validate.specs.Door.HeapCalls.{Asked, enough, admitted, heap_tests, whether}
+use Rattle.validate.specs.Door.HeapCalls.{Entry}
 use Rattle.std.specs.Prelude.{Err}
-use Rattle.door.specs.HeapCalls.{ready}
-use Rattle.door.proofs.Entering.{is-enough, asking-not, asking-ready}
+use Rattle.validate.specs.Door.HeapCalls.{ready}
+use Rattle.validate.proofs.DoorLaws.Entering.{is-enough, asking-not, asking-ready}
 use Rattle.theorems.specs.PageCalls.{Writes, done, Scratch}
 
 -- 18, 1, or neither

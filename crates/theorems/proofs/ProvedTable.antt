@@ -7,11 +7,11 @@ use Rattle.word.specs.Num.{align_up}
 use Rattle.word.specs.Le.{le, bytes}
 use Rattle.handle.specs.Handle.{packed, tag_of, index_of, generation_of, resolve_by}
 use Rattle.heap.specs.Calls.{new, resolve}
-use Rattle.ty.specs.Words.{word_of, rank}
-use Rattle.ty.specs.Scalars.{scalar_size, narrow, elem_size, logic_leaf, leaf_by}
+use Rattle.type_table.specs.Rows.Words.{word_of, rank}
+use Rattle.type_table.specs.Rows.Scalars.{scalar_size, narrow, elem_size, logic_leaf, leaf_by}
 use Rattle.layout.specs.Layout.{dim_len, dims_of, under, array_laid, array_of, placed, end_of, record_of, layout_by, layout_at, layout_of}
 use Rattle.layout.specs.Offsets.{offsets_from, offsets_of}
-use Rattle.trace.specs.Places.{handles_places, kind_places, words_at, handles_of, eight_apart}
+use Rattle.tracing.specs.Trace.Places.{handles_places, kind_places, words_at, handles_of, eight_apart}
 use Rattle.theorems.specs.TableLayouts.{dim, sample, nested, answered, cases}
 use Rattle.theorems.specs.ProvedTable.{laid, handles_in, table, all_right, ProvedTable}
 

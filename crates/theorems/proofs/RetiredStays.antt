@@ -8,11 +8,11 @@ use Rattle.std.specs.Prelude.{if◌then◌else◌, filter}
 use Rattle.word.specs.Result.{Result, ok, refused}
 use Rattle.heap.specs.State.{State, slot_at, live, worn, data_size}
 use Rattle.heap.specs.Calls.{Changed, Object, refuse, done, release, on_slot, resolve, alloc_from, edit, edit_slot, write, reissue, take_into, take_slot, free, recycle, seal}
-use Rattle.reach.specs.Reach.{Graph, Starts}
-use Rattle.reach.specs.Marking.{State as Marks, marking}
+use Rattle.reachability.specs.Reach.Reach.{Graph, Starts}
+use Rattle.reachability.specs.Reach.Marking.{State as Marks, marking}
 use Rattle.collection.specs.Swept.{drop_slot, drop_slots, drop_unmarked, swept}
-use Rattle.flow.specs.Function.{Function}
-use Rattle.ty.specs.Types.{Table}
+use Rattle.control_flow.specs.Flow.Function.{Function}
+use Rattle.type_table.specs.Rows.Types.{Table}
 use Rattle.collection.specs.Shown.{shown}
 use Rattle.collection.specs.Collected.{graph, starts}
 use Rattle.collection.specs.Collecting.{swept_by, collected}

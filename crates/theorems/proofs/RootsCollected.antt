@@ -1,5 +1,5 @@
 -- Collecting with the roots that were found. Assumes nothing.
-use Rattle.wanted_door.proofs.KeepingWanted.{collects-wanted}
+use Rattle.yexwalu.proofs.RootListsLaws.KeepingWanted.{collects-wanted}
 use Rattle.theorems.specs.RootsCollected.{RootsCollected}
 
 pub roots-collected : RootsCollected

@@ -12,11 +12,11 @@ use Rattle.word.specs.Result.{Result, ok, refused}
 use Rattle.word.proofs.Bools.{by_size}
 use Rattle.text.specs.Text.{decimal, newline}
 use Rattle.text.proofs.Laws.{decimal-length}
-use Rattle.figures.specs.declared.Figures.{Figures}
-use Rattle.figures.specs.Figures.{no_figures, merge, total, figures_line}
-use Rattle.figures.specs.Inner.Counting.{shown_as, line_of}
-use Rattle.figures.proofs.Totals.{figures-same, merge_none, none-merge, merge-assoc, merge-comm, total-append}
-use Rattle.held_figures.specs.Totals.{in_words}
+use Rattle.shelves.specs.declared.counted.Figures.{Figures}
+use Rattle.shelves.specs.Counted.Figures.{no_figures, merge, total, figures_line}
+use Rattle.shelves.specs.Counted.Inner.Counting.{shown_as, line_of}
+use Rattle.shelves.proofs.CountedLaws.Totals.{figures-same, merge_none, none-merge, merge-assoc, merge-comm, total-append}
+use Rattle.unchecked.specs.Figures.Totals.{in_words}
 use Rattle.shelves.specs.declared.At.{At}
 use Rattle.shelves.specs.declared.At.TheVariants.{Over}
 use Rattle.shelves.specs.declared.Shelf.{Shelf}

@@ -5,17 +5,17 @@ use Rattle.text.specs.Text.{Bytes, All}
 use Rattle.text.specs.Put.{put_text}
 use Rattle.refusal.specs.Told.{answered, here, nothing, refused_by}
 use Rattle.refusal.specs.declared.Answer.{Answer}
-use Rattle.ty.specs.Check.{table_good}
-use Rattle.pages.specs.Answer.{text_answer, text_out}
+use Rattle.type_table.specs.Rows.Check.{table_good}
+use Rattle.page_format.specs.Pages.Answer.{text_answer, text_out}
 use Rattle.tables.specs.Table.{Named, most64, most32, table_text}
 use Rattle.tables.specs.Reading.{read_table, named_in}
 use Rattle.tables.specs.Lists.{numbers_in, all_names, good}
-use Rattle.table_writer.specs.Writing.{writing, leaving, lent_table}
-use Rattle.table_writer.proofs.TablesInLists.{lists-hold, Lying, lying}
-use Rattle.table_check.specs.Verdict.{verdict}
-use Rattle.table_reader.specs.Reading.{Lists, lists, filled, fits, enough, roomy, table_read, table_told, lists_left, Outcome, read_into, reading}
-use Rattle.table_reader.specs.declared.TableRead.{TableRead}
-use Rattle.widths.specs.Words.{Entries}
+use Rattle.tables.specs.Writer.Writing.{writing, leaving, lent_table}
+use Rattle.tables.proofs.WriterLaws.TablesInLists.{lists-hold, Lying, lying}
+use Rattle.tables.specs.Check.Verdict.{verdict}
+use Rattle.tables.specs.Reader.Reading.{Lists, lists, filled, fits, enough, roomy, table_read, table_told, lists_left, Outcome, read_into, reading}
+use Rattle.tables.specs.declared.reader.TableRead.{TableRead}
+use Rattle.page_format.specs.Widths.Words.{Entries}
 use Rattle.theorems.specs.PageCalls.{WroteText}
 use Rattle.theorems.specs.TableText.{held, Writes, Reads, fronts, ReadWritten, TableWords, Room, TookIn, WrittenRead}
 use Rattle.theorems.proofs.PageWriting.{put-start}

@@ -5,9 +5,9 @@ use Rattle.std.specs.Prelude.{◌≡◌, List, [], ◌∷◌, map, ℕ, ◌≤�
 use Rattle.refusal.specs.declared.Answer.{Answer}
 use Rattle.heap.specs.Lent.{Lent, lent}
 use Rattle.heap.specs.declared.Heap.{Heap}
-use Rattle.door.specs.HeapCalls.{zeros, outcome_of}
-use Rattle.collect_door.specs.Calls.{Asked, joined_call}
-use Rattle.collect_door.specs.Demand.{done}
+use Rattle.validate.specs.Door.HeapCalls.{zeros, outcome_of}
+use Rattle.yexwalu.specs.Collections.Calls.{Asked, joined_call}
+use Rattle.yexwalu.specs.Collections.Demand.{done}
 
 -- the memory of a heap as a host lends it
 pub record Memory : Type 0 where

@@ -6,9 +6,9 @@ use Rattle.refusal.specs.declared.Refusal.TheVariants.{Untraceable}
 use Rattle.handle.specs.Handle.{packed}
 use Rattle.heap.specs.State.{Slot, State, slot_at, live}
 use Rattle.heap.specs.Lent.{Lent, stored, view}
-use Rattle.door.specs.HeapCalls.{Outcome, admitted, ready}
-use Rattle.collect_door.specs.Calls.{Asked, joined_tests, joined_call}
-use Rattle.collect_door.specs.Demand.{done, refusal}
+use Rattle.validate.specs.Door.HeapCalls.{Outcome, admitted, ready}
+use Rattle.yexwalu.specs.Collections.Calls.{Asked, joined_tests, joined_call}
+use Rattle.yexwalu.specs.Collections.Demand.{done, refusal}
 
 -- a heap of tag 1 that has these slots, all of them live
 abbrev pub heap_of : List Slot → State

@@ -10,9 +10,9 @@ use Rattle.text.specs.Reading.{◌>>=◌}
 use Rattle.text.specs.Format.{Format, number, always, after_literal, pair, times}
 use Rattle.heap.specs.State.{State, data_size}
 use Rattle.heap.specs.Lent.{Lent, slot_count, pool_size}
-use Rattle.pages.specs.Form.{earlier}
-use Rattle.pages.specs.Page.{sound_before}
-use Rattle.pages.specs.Reading.{slot_format, Head, head_format, Body, state_of, whole}
+use Rattle.page_format.specs.Pages.Form.{earlier}
+use Rattle.page_format.specs.Pages.Page.{sound_before}
+use Rattle.page_format.specs.Pages.Reading.{slot_format, Head, head_format, Body, state_of, whole}
 use Rattle.page_reader.specs.Reading.{Left, left, in_range}
 
 unfoldable pub earlier_heap_names : List ℕ

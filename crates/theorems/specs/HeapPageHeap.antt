@@ -2,8 +2,8 @@
 use Rattle.std.specs.Prelude.{ℕ, Bool, List, ◌≡◌, take}
 use Rattle.refusal.specs.declared.Answer.{Answer}
 use Rattle.heap.specs.Lent.{Lent, view}
-use Rattle.pages.specs.Form.{written}
-use Rattle.widths.specs.Words.{Words}
+use Rattle.page_format.specs.Pages.Form.{written}
+use Rattle.page_format.specs.Widths.Words.{Words}
 use Rattle.theorems.specs.PageCalls.{Writes, Reads, Scratch, Room, SameSizes, TookIn, met, unlogged_lent}
 
 -- a page was written of the heap in l, with planes or data, and read into m

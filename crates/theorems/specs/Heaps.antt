@@ -6,8 +6,8 @@ use Rattle.heap.specs.Lent.{Lent, lent, stored, view}
 use Rattle.heap.specs.Sizes.{sizes_fit}
 use Rattle.heap.specs.WellFormed.{well_formed}
 use Rattle.heap.specs.Calls.{Place, new, visible_at, place_at}
-use Rattle.door.specs.HeapCalls.{asked, enough, heap_ask, outcome, zeros}
-use Rattle.object_door.specs.Making.{no_header, new_call}
+use Rattle.validate.specs.Door.HeapCalls.{asked, enough, heap_ask, outcome, zeros}
+use Rattle.yexwalu.specs.Objects.Making.{no_header, new_call}
 
 -- on sizes in range, with scratch, `new` succeeds and leaves the empty heap of the tag
 abbrev pub NewSucceeds : Type 0

@@ -4,9 +4,9 @@ use Rattle.refusal.specs.declared.Answer.{Answer}
 use Rattle.heap.specs.State.{State, data_size}
 use Rattle.heap.specs.Lent.{Lent, view}
 use Rattle.heap.specs.WellFormed.{well_formed}
-use Rattle.pages.specs.Form.{written}
-use Rattle.pages.specs.Page.{page_text}
-use Rattle.widths.specs.Words.{Words}
+use Rattle.page_format.specs.Pages.Form.{written}
+use Rattle.page_format.specs.Pages.Page.{page_text}
+use Rattle.page_format.specs.Widths.Words.{Words}
 use Rattle.theorems.specs.PageCalls.{Writes, Scratch, done}
 
 abbrev pub page_bound : State → ℕ

@@ -6,10 +6,10 @@ use Rattle.heap.specs.State.{State, data_size, with_epoch}
 use Rattle.heap.specs.Header.{set_epoch}
 use Rattle.heap.specs.Lent.{Lent, columns, stored, view, slot_count, pool_size}
 use Rattle.heap.specs.WellFormed.{well_formed}
-use Rattle.door.specs.HeapCalls.{asked, outcome}
-use Rattle.pages.specs.Form.{Form}
+use Rattle.validate.specs.Door.HeapCalls.{asked, outcome}
+use Rattle.page_format.specs.Pages.Form.{Form}
 use Rattle.page_reader.specs.Reading.{bits_met, names_met, in_range}
-use Rattle.page_door.specs.Page.{writing, page_out, reading}
+use Rattle.yexwalu.specs.Pages.Page.{writing, page_out, reading}
 
 -- a call of `write_page` on the heap in l, with planes or data, answered r: its contract
 pub record Writes (l : Lent) (planar : Bool) (out marks work : List ℕ) (r : Answer) (out' marks' work' : List ℕ) : Type 0 where

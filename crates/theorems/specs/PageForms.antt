@@ -9,13 +9,13 @@ use Rattle.refusal.specs.declared.Answer.{Answer}
 use Rattle.heap.specs.State.{State}
 use Rattle.heap.specs.Lent.{Lent, view}
 use Rattle.heap.specs.WellFormed.{sound}
-use Rattle.pages.specs.Form.{Form, written, earlier}
-use Rattle.pages.specs.Page.{page_text, Within, Unsaved, brought}
-use Rattle.page_parser.specs.Contents.{form_in, heap_in}
+use Rattle.page_format.specs.Pages.Form.{Form, written, earlier}
+use Rattle.page_format.specs.Pages.Page.{page_text, Within, Unsaved, brought}
+use Rattle.page_check.specs.PageParser.Contents.{form_in, heap_in}
 use Rattle.theorems.specs.PageCalls.{Writes, Reads, Scratch, Room, TookIn, WroteText, met}
 use Rattle.theorems.specs.PageHeapPage.{TextRead}
 use Rattle.theorems.specs.EarlierPage.{earlier_read, earlier_into}
-use Rattle.pages.specs.Reading.{read_page}
+use Rattle.page_format.specs.Pages.Reading.{read_page}
 
 -- a page, in whatever form, of which the heap that it brings is sound, is taken in as that heap
 -- by lent memory with room: every number is carried over unchanged, and where the form

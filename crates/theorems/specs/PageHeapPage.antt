@@ -4,8 +4,8 @@ use Rattle.std.specs.Prelude.{ℕ, Bool, true, List, ◌≡◌}
 use Rattle.refusal.specs.declared.Answer.{Answer}
 use Rattle.heap.specs.Lent.{Lent}
 use Rattle.heap.specs.WellFormed.{well_formed}
-use Rattle.pages.specs.Form.{written}
-use Rattle.page_parser.specs.Contents.{form_in}
+use Rattle.page_format.specs.Pages.Form.{written}
+use Rattle.page_check.specs.PageParser.Contents.{form_in}
 use Rattle.theorems.specs.PageCalls.{Writes, Reads, Scratch, WroteText}
 
 -- a text was read into lent memory, which l' is afterwards

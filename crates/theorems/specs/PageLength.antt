@@ -4,10 +4,10 @@ use Rattle.refusal.specs.Told.{refused_by}
 use Rattle.refusal.specs.declared.Answer.{Answer}
 use Rattle.heap.specs.Lent.{Lent, view}
 use Rattle.heap.specs.WellFormed.{well_formed}
-use Rattle.pages.specs.Form.{written}
-use Rattle.pages.specs.Page.{page_text}
-use Rattle.door.specs.HeapCalls.{asked}
-use Rattle.page_door.specs.Page.{measuring}
+use Rattle.page_format.specs.Pages.Form.{written}
+use Rattle.page_format.specs.Pages.Page.{page_text}
+use Rattle.validate.specs.Door.HeapCalls.{asked}
+use Rattle.yexwalu.specs.Pages.Page.{measuring}
 use Rattle.theorems.specs.PageCalls.{Writes, Scratch, done}
 
 -- a call of `page_length` on the heap in l, with planes or data, answered r: its contract

@@ -7,8 +7,8 @@ use Rattle.word.specs.Same.{same_list}
 use Rattle.word.specs.Result.{Result, ok, refused}
 use Rattle.handle.specs.Handle.{packed}
 use Rattle.heap.specs.Calls.{new, resolve}
-use Rattle.ty.specs.Types.{Table}
-use Rattle.trace.specs.Places.{handles_of}
+use Rattle.type_table.specs.Rows.Types.{Table}
+use Rattle.tracing.specs.Trace.Places.{handles_of}
 use Rattle.theorems.specs.TableLayouts.{Case, answered, cases}
 use Rattle.layout.specs.Layout.{layout_of}
 use Rattle.layout.specs.Offsets.{offsets_of}

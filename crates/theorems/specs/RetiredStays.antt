@@ -4,9 +4,9 @@ use Rattle.std.specs.Prelude.{◌≡◌, List, ◌++◌, ℕ}
 use Rattle.std.proofs.Math.Option.{Option}
 use Rattle.heap.specs.State.{State}
 use Rattle.heap.specs.Calls.{alloc_from, edit, write, reissue, take_into, free, recycle, seal}
-use Rattle.reach.specs.Reach.{Graph, Starts}
-use Rattle.flow.specs.Function.{Function}
-use Rattle.ty.specs.Types.{Table}
+use Rattle.reachability.specs.Reach.Reach.{Graph, Starts}
+use Rattle.control_flow.specs.Flow.Function.{Function}
+use Rattle.type_table.specs.Rows.Types.{Table}
 use Rattle.collection.specs.Collecting.{collected}
 use Rattle.collection.specs.Joined.{joined}
 use Rattle.collection.specs.JoinedDemand.{Pinning}

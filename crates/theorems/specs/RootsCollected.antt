@@ -5,12 +5,12 @@ use Rattle.std.specs.Prelude.{◌≡◌, true, List, ◌↔◌, ℕ, ◌≤◌, 
 use Rattle.refusal.specs.declared.Answer.{Answer}
 use Rattle.heap.specs.State.{slot_at, live}
 use Rattle.heap.specs.Lent.{Lent, view}
-use Rattle.reach.specs.Reach.{◌∈◌}
-use Rattle.door.specs.HeapCalls.{Outcome, asked_of}
-use Rattle.collect_door.specs.Calls.{collect_call}
-use Rattle.collect_door.specs.Demand.{done}
-use Rattle.wanted_door.specs.RootsFor.{Given as Wanted, roots_call, roots_out}
-use Rattle.wanted_door.specs.CollectWanted.{with_roots}
+use Rattle.reachability.specs.Reach.Reach.{◌∈◌}
+use Rattle.validate.specs.Door.HeapCalls.{Outcome, asked_of}
+use Rattle.yexwalu.specs.Collections.Calls.{collect_call}
+use Rattle.yexwalu.specs.Collections.Demand.{done}
+use Rattle.yexwalu.specs.RootLists.RootsFor.{Given as Wanted, roots_call, roots_out}
+use Rattle.yexwalu.specs.RootLists.CollectWanted.{with_roots}
 
 -- a call of `roots_for` on l answered a, and left scratch and the list: its contract
 pub record Found (g : Wanted) (marks work : List ℕ) (l : Lent) (out : List ℕ) (a : Answer) (scratch : List (List ℕ)) (out' : List ℕ) : Type 0 where

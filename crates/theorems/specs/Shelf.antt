@@ -3,9 +3,9 @@
 use Rattle.std.specs.Prelude.{ℕ, ◌+◌, ◌^◌, ◌≤◌, ◌<◌, max, Bool, false, ◌≡◌, length, take, drop}
 use mathlib.Core.List.{List, [], ◌∷◌, ◌++◌, map, foldl, foldr}
 use Rattle.text.specs.Text.{decimal, newline, All}
-use Rattle.figures.specs.declared.Figures.{Figures}
-use Rattle.figures.specs.Figures.{no_figures, merge, total, figures_line}
-use Rattle.held_figures.specs.Totals.{in_words}
+use Rattle.shelves.specs.declared.counted.Figures.{Figures}
+use Rattle.shelves.specs.Counted.Figures.{no_figures, merge, total, figures_line}
+use Rattle.unchecked.specs.Figures.Totals.{in_words}
 use Rattle.shelves.specs.declared.At.TheVariants.{Over}
 use Rattle.shelves.specs.declared.Shelf.{Shelf}
 use Rattle.shelves.specs.Shelf.{whole, pages_in, answers_of, answer_lines, accepted, names_line, last_line, shelf_text}

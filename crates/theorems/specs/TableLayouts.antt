@@ -2,7 +2,7 @@
 -- type and the descriptor that are asked about, and the answer.
 use Rattle.std.specs.Prelude.{ℕ, zero, suc, ◌+◌, ◌-◌, ◌^◌, List, [], ◌∷◌, ◌++◌, Ok, Err}
 use Rattle.word.specs.Le.{bytes}
-use Rattle.ty.specs.Types.{Ty, Ty.int, Ty.enum, Ty.array, Ty.fields, Ty.access, Field.field, none}
+use Rattle.type_table.specs.Rows.Types.{Ty, Ty.int, Ty.enum, Ty.array, Ty.fields, Ty.access, Field.field, none}
 use Rattle.refusal.specs.Told.{number_of}
 use Rattle.layout.specs.Layout.{Lay}
 

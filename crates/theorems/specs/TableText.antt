@@ -8,10 +8,10 @@ use Rattle.text.specs.Put.{put_text}
 use Rattle.refusal.specs.Told.{answered, here, nothing, refused_by}
 use Rattle.refusal.specs.declared.Answer.{Answer}
 use Rattle.tables.specs.Table.{Named}
-use Rattle.table_writer.specs.Writing.{writing, leaving, lent_table}
-use Rattle.table_reader.specs.Reading.{Lists, lists, enough, outcome, reading}
-use Rattle.table_reader.specs.declared.TableRead.{TableRead}
-use Rattle.widths.specs.Words.{Entries}
+use Rattle.tables.specs.Writer.Writing.{writing, leaving, lent_table}
+use Rattle.tables.specs.Reader.Reading.{Lists, lists, enough, outcome, reading}
+use Rattle.tables.specs.declared.reader.TableRead.{TableRead}
+use Rattle.page_format.specs.Widths.Words.{Entries}
 use Rattle.theorems.specs.PageCalls.{WroteText}
 
 -- the table that lies in lists with its names, or what it is refused for

@@ -3,9 +3,9 @@
 use Rattle.std.specs.Prelude.{◌≡◌, [], ◌∷◌, replicate}
 use Rattle.heap.specs.State.{State}
 use Rattle.heap.specs.Lent.{stored}
-use Rattle.door.specs.HeapCalls.{admitted}
-use Rattle.door.specs.HeapCalls.{ready}
-use Rattle.collect_door.specs.Calls.{Asked, joined_tests}
+use Rattle.validate.specs.Door.HeapCalls.{admitted}
+use Rattle.validate.specs.Door.HeapCalls.{ready}
+use Rattle.yexwalu.specs.Collections.Calls.{Asked, joined_tests}
 
 -- one Bytes object of two bytes
 abbrev pub one_object : State

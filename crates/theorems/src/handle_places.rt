@@ -1,7 +1,7 @@
 // The places of handles in an object.
 
-ghost use Rattle.places.specs.PlacesRise.{PlacesRise, HandlesRise};
-ghost use Rattle.places.specs.StrideZero.{ShowsNothing, WalkShowsNothing};
+ghost use Rattle.tracing.specs.Places.PlacesRise.{PlacesRise, HandlesRise};
+ghost use Rattle.tracing.specs.Places.StrideZero.{ShowsNothing, WalkShowsNothing};
 
 // The places of an object rise, each eight bytes after the one before it or later, within the data.
 pub fn places_rise()

@@ -1,6 +1,6 @@
 // Layouts: the table of cases, and layouts in numbers.
 
-ghost use Rattle.held_types.specs.Once.{LayoutNumbered, LaidZero, LaidOnce};
+ghost use Rattle.layout.specs.Numbers.Once.{LayoutNumbered, LaidZero, LaidOnce};
 ghost use Rattle.theorems.specs.ProvedTable.{ProvedTable};
 
 // Each case of the proved table is what the definitions give, by computation.

@@ -15,11 +15,12 @@ pub mod save_order;
 pub mod shelf_lines;
 pub mod table_trips;
 pub mod traceable;
+pub mod value_texts; // the text of an object's values
 
-ghost use Rattle.table_reader.specs.Reading.{lists};
+ghost use Rattle.tables.specs.Reader.Reading.{lists};
 ghost use Rattle.theorems.specs.TableText.{TableWords};
 
-pub use widths::words;
+pub use page_format::widths::words;
 
 fn nothing() {}
 

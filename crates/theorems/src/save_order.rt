@@ -1,7 +1,7 @@
 // The order of two saves, and what `same` and `order` answer.
 
-ghost use Rattle.saves.specs.Once.{ComparingTold, ComparingZero, OrderOnce, SameOnce};
-ghost use Rattle.saves.specs.Right.{SwapTurns, OrderTransitive};
+ghost use Rattle.compare.specs.Saves.Once.{ComparingTold, ComparingZero, OrderOnce, SameOnce};
+ghost use Rattle.compare.specs.Saves.Right.{SwapTurns, OrderTransitive};
 
 // The order of two saves turns round where they are named the other way round.
 pub fn swap_turns()

@@ -1,6 +1,6 @@
 // A type table's text, both ways, and what `read_table` answers.
 
-ghost use Rattle.table_reader.specs.Once.{ReadNumbered, ToldZero, ToldOnce};
+ghost use Rattle.tables.specs.Reader.Once.{ReadNumbered, ToldZero, ToldOnce};
 ghost use Rattle.theorems.specs.TableText.{ReadWritten, WrittenRead};
 
 // The fronts of the lists that a text was read to are written as that text.

@@ -1,6 +1,6 @@
 // What `traceable` tells.
 
-ghost use Rattle.slot_door.specs.Once.{FoundTold, FoundZero, FoundOnce};
+ghost use Rattle.yexwalu.specs.Slots.Once.{FoundTold, FoundZero, FoundOnce};
 
 // What `traceable` answers is what it finds, and never 13.
 pub fn found_is_told()

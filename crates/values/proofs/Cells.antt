@@ -13,17 +13,17 @@ use borrow.Author.Tests.{eq-eqb, ne_eqb, le-leb, lt-leb}
 use Rattle.std.specs.Prelude.{Some, None, Ok, Err, if◌then◌else◌}
 use Rattle.text.specs.Text.{ascii}
 use Rattle.refusal.specs.declared.Refusal.{Refusal}
-use Rattle.ty.specs.Types.{Ty, Ty.missing, Field, Field.field, Const, Const.plain, Const.other, const_at, none as no_const}
-use Rattle.ty.specs.Words.{word_of, round_up}
-use Rattle.ty.specs.Scalars.{logic_leaf}
-use Rattle.ty.specs.View.{entry_of, entry_at, read_ty, read_entry, fields_from, part_at, read_part}
-use Rattle.ty.specs.Lent.{lent}
-use Rattle.ty.specs.Inner.Rows.{bare}
-use Rattle.ty.specs.declared.Table.{Table as Lent}
-use Rattle.ty.specs.declared.Entry.{Entry}
-use Rattle.ty.specs.declared.Entry.TheVariants.{Int, Physical, Enum, Real, Array, Record, Access, File, Protected}
-use Rattle.ty.proofs.Lookup.{type-at, const-at, le-or-lt}
-use Rattle.ty.proofs.WalkLaws.{fields-first, fields-last, fields-next}
+use Rattle.type_table.specs.Rows.Types.{Ty, Ty.missing, Field, Field.field, Const, Const.plain, Const.other, const_at, none as no_const}
+use Rattle.type_table.specs.Rows.Words.{word_of, round_up}
+use Rattle.type_table.specs.Rows.Scalars.{logic_leaf}
+use Rattle.type_table.specs.Rows.View.{entry_of, entry_at, read_ty, read_entry, fields_from, part_at, read_part}
+use Rattle.type_table.specs.Rows.Lent.{lent}
+use Rattle.type_table.specs.Rows.Inner.Rows.{bare}
+use Rattle.type_table.specs.declared.rows.Table.{Table as Lent}
+use Rattle.type_table.specs.declared.rows.Entry.{Entry}
+use Rattle.type_table.specs.declared.rows.Entry.TheVariants.{Int, Physical, Enum, Real, Array, Record, Access, File, Protected}
+use Rattle.type_table.proofs.RowsLaws.Lookup.{type-at, const-at, le-or-lt}
+use Rattle.type_table.proofs.RowsLaws.WalkLaws.{fields-first, fields-last, fields-next}
 use Rattle.std.specs.Prelude.{Option}
 use Rattle.layout.specs.Layout.{Lay, Dims, on_ok, dims_of, under, used_by, array_of, layout_at}
 use Rattle.layout.proofs.Within.{dims-within, used-within}
@@ -40,7 +40,7 @@ flat_map-append f [] ys = refl
 flat_map-append f (x ∷ xs) ys = ap (λ (z : List ℕ). f x ++ z) (flat_map-append f xs ys) ∙ sym (append_assoc (f x) (flat_map f xs) (flat_map f ys))
 
 -- a scalar's only cell
-one-cell : (T : Rattle.ty.specs.Types.Table) (N : Names) (next : Below) (end : ℕ) (elem : Bool) (t : ℕ) (d p : List ℕ) (at : ℕ) (fs : List ℕ) (e : Entry) →
+one-cell : (T : Rattle.type_table.specs.Rows.Types.Table) (N : Names) (next : Below) (end : ℕ) (elem : Bool) (t : ℕ) (d p : List ℕ) (at : ℕ) (fs : List ℕ) (e : Entry) →
     ((a c k : ℕ) → e ≡ Array a c k → ⊥) → ((i n : ℕ) → e ≡ Record i n → ⊥) → cells_by T N next end elem t d p at (read_entry fs e) ≡ scalar p (N.word t) (bare e) (width elem (bare e)) at ∷ []
 unfolding cells_by read_entry
 one-cell T N next end elem t d p at fs (Int lo hi) a r = refl

@@ -10,8 +10,8 @@ use mathlib.Core.Bool.{Bool, true, false}
 use Rattle.std.specs.Prelude.{if◌then◌else◌}
 use borrow.Author.Tests.{lt-ltb, le-ltb}
 use Rattle.std.proofs.lemmas.List.{append_cancel_left}
-use Rattle.ty.proofs.Lookup.{le-or-lt}
-use Rattle.ty.specs.Types.{Ty, Ty.missing, Ty.int, Ty.physical, Ty.enum, Ty.real, Ty.array, Ty.fields, Ty.access, Ty.file, Ty.protected}
+use Rattle.type_table.proofs.RowsLaws.Lookup.{le-or-lt}
+use Rattle.type_table.specs.Rows.Types.{Ty, Ty.missing, Ty.int, Ty.physical, Ty.enum, Ty.real, Ty.array, Ty.fields, Ty.access, Ty.file, Ty.protected}
 use Rattle.text.specs.Text.{ascii, decimal, hex, line, comma, Bytes}
 use Rattle.text.specs.Reading.{read_decimal, read_hex, digit_of}
 use Rattle.text.specs.Inner.Answer.{Stops}
@@ -25,10 +25,10 @@ use Rattle.text.specs.Text.{hex_digit}
 use Rattle.text.specs.Reading.{hex_digit_of}
 use Rattle.text.proofs.Laws.{hex-digit-forth}
 use Rattle.values.specs.Values.{code_letter, bit_at, codes_text}
-use Rattle.sheet.specs.Numbers.{hex_digits}
+use Rattle.text.specs.Sheet.Numbers.{hex_digits}
 use Rattle.values.specs.Agreement.{Agrees, bounds-agree, scalar-agrees, logic-agrees, AllAgree, no-cells, more-cells}
 use Rattle.values.specs.Values.{Cell, bounds, scalar, logic, number_at, code_at, remark, handle_remark, cell_text, cells_text, scalar_text, class_word, value_line, descriptor_line}
-use Rattle.sheet.specs.Numbers.{signed_decimal}
+use Rattle.text.specs.Sheet.Numbers.{signed_decimal}
 
 -- a number and what follows it, which does not begin with a digit
 pub decimal-apart : (a b : ℕ) (s t : List ℕ) → Stops s → Stops t → decimal a ++ s ≡ decimal b ++ t → (a ≡ b) × (s ≡ t)

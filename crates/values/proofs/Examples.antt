@@ -8,13 +8,13 @@ use Rattle.std.specs.Prelude.{get_or}
 use Rattle.text.specs.Text.{ascii, digits, decimal, hex_digit, hex, line}
 use Rattle.word.specs.Le.{le}
 use Rattle.word.specs.Num.{align_up}
-use Rattle.ty.specs.Types.{Ty.int, Ty.physical, Ty.enum, Ty.real, Ty.array, Ty.fields, Ty.access, Ty.file, Ty.protected, Field.field, Const.plain}
-use Rattle.ty.specs.Words.{word_of, rank}
-use Rattle.ty.specs.Scalars.{scalar_size, elem_size, narrow, logic_leaf, leaf_by}
-use Rattle.ty.specs.DescSize.{desc_at, desc_by, desc_array, desc_fields}
+use Rattle.type_table.specs.Rows.Types.{Ty.int, Ty.physical, Ty.enum, Ty.real, Ty.array, Ty.fields, Ty.access, Ty.file, Ty.protected, Field.field, Const.plain}
+use Rattle.type_table.specs.Rows.Words.{word_of, rank}
+use Rattle.type_table.specs.Rows.Scalars.{scalar_size, elem_size, narrow, logic_leaf, leaf_by}
+use Rattle.type_table.specs.Rows.DescSize.{desc_at, desc_by, desc_array, desc_fields}
 use Rattle.layout.specs.Layout.{dim_len, dims_of, under, array_laid, array_of, placed, end_of, record_of, layout_by, layout_at, layout_of}
 use Rattle.values.specs.Values.{Names, remark, handle_remark, class_word, scalar_text, index_from, at_least_one, index_text, element_path, field_name, field_path, direction, bound_text, bounds_text, code_letter, bit_at, code_at, codes_text, part_cells, element_cells, field_cells, inner_cells, array_cells, width, cells_by, cells_at, cell_text, descriptor_line, parts_of, text_of, object_text}
-use Rattle.sheet.specs.Numbers.{signed_decimal, hex_digits}
+use Rattle.text.specs.Sheet.Numbers.{signed_decimal, hex_digits}
 
 text_in : List String → ℕ → List ℕ
 text_in ss k = ascii (get_or ss k "")

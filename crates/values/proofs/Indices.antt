@@ -6,7 +6,7 @@ use native.Mathlib.Omega.{arith}
 use lib.ListN.{drop}
 use Rattle.layout.specs.Layout.{desc_word}
 use Rattle.values.specs.Values.{index_from, positions, index_text, bound_text, bounds_text}
-use Rattle.sheet.specs.Numbers.{signed_decimal}
+use Rattle.text.specs.Sheet.Numbers.{signed_decimal}
 
 pub index-none : (n : ℕ) (d : List ℕ) (k : ℕ) → n ≡ 0 → index_text n d k ≡ []
 unfolding index_text

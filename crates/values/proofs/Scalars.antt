@@ -8,8 +8,8 @@ use native.Mathlib.Omega.{arith}
 use lib.Dec.{leb}
 use Rattle.std.specs.Prelude.{Some, unwrap_or, if◌then◌else◌}
 use Rattle.text.specs.Text.{comma, line}
-use Rattle.ty.specs.Types.{Ty, Ty.missing, Ty.int, Ty.physical, Ty.enum, Ty.real, Ty.array, Ty.fields, Ty.access, Ty.file, Ty.protected}
-use Rattle.ty.specs.Scalars.{scalar_size, elem_size, narrow}
+use Rattle.type_table.specs.Rows.Types.{Ty, Ty.missing, Ty.int, Ty.physical, Ty.enum, Ty.real, Ty.array, Ty.fields, Ty.access, Ty.file, Ty.protected}
+use Rattle.type_table.specs.Rows.Scalars.{scalar_size, elem_size, narrow}
 use Rattle.values.specs.Values.{width, value_line}
 use Rattle.values.specs.Inner.Walk.{head_text}
 

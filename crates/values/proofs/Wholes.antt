@@ -8,21 +8,21 @@ use lib.ListN.{length, take}
 use borrow.Author.Tests.{le-leb, lt-leb}
 use Rattle.std.specs.Prelude.{Some, None, Ok, Err}
 use Rattle.refusal.specs.declared.Refusal.{Refusal}
-use Rattle.ty.specs.Types.{Table}
-use Rattle.ty.specs.DescSize.{desc_size}
+use Rattle.type_table.specs.Rows.Types.{Table}
+use Rattle.type_table.specs.Rows.DescSize.{desc_size}
 use Rattle.layout.specs.Layout.{layout_of}
 use Rattle.layout.specs.declared.Layout.{Layout}
 use lib.Seq.{length-take-le}
 use Rattle.word.specs.Result.{ok, refused}
-use Rattle.ty.specs.Lent.{lent}
-use Rattle.ty.specs.declared.Table.{Table as Lent}
+use Rattle.type_table.specs.Rows.Lent.{lent}
+use Rattle.type_table.specs.declared.rows.Table.{Table as Lent}
 use Rattle.values.specs.Values.{Parts, parts_of, text_of, object_text}
 use Rattle.values.specs.Calls.{length_answer, text_answer, text_after}
 use Rattle.values.specs.Names.{names_of}
-use Rattle.sheet.specs.Inner.Sheet.{sheet, with_text}
+use Rattle.text.specs.Sheet.Inner.Sheet.{sheet, with_text}
 use Rattle.values.specs.Inner.Walk.{FoundParts, whole_text}
 use Rattle.values.specs.declared.names.Lines.{Lines}
-use Rattle.sheet.proofs.Sheets.{with_text-at, with_text-page}
+use Rattle.text.proofs.SheetLaws.Sheets.{with_text-at, with_text-page}
 
 pub found-none : (o : Option Parts) (v : List ℕ) → o ≡ none → FoundParts o v None
 found-none o v e = record { lost = λ r. e; there = λ k size r. let z : ◌≡◌ {A = ℕ} 0 1 = cc in absurd (omega arith) }

@@ -1,6 +1,6 @@
 -- When the cells of an object show the same of two lists of bytes.
 use Rattle.std.specs.Prelude.{ℕ, ◌<◌, ◌≡◌, List, [], ◌∷◌}
-use Rattle.ty.specs.Types.{Ty}
+use Rattle.type_table.specs.Rows.Types.{Ty}
 use Rattle.values.specs.Values.{Cell, bounds, scalar, logic, number_at, code_at}
 
 -- a cell shows the same of both: the same number, the same codes; the bounds of arrays go by the descriptor

@@ -4,3 +4,4 @@ pub mod Names
 pub mod Agreement
 pub mod Calls
 pub mod Inner
+pub mod NameIndex

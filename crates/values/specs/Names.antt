@@ -1,6 +1,6 @@
 -- Names as they are lent beside a table: the text of all names, and where each begins. Wrong places give wrong names, never wrong values.
 use Rattle.std.specs.Prelude.{ℕ, ◌+◌, ◌-◌, ◌*◌, ◌^◌, List, [], ◌∷◌, get_or, drop, ltb, if◌then◌else◌}
-use Rattle.ty.specs.declared.Table.{Table}
+use Rattle.type_table.specs.declared.rows.Table.{Table}
 use Rattle.values.specs.Values.{Names}
 use Rattle.values.specs.declared.names.Lines.{Lines}
 

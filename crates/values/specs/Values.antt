@@ -1,15 +1,15 @@
 -- The values of an object as text, by its type (docs/FORMAT.md, The values of an object): a line for each array and for each value, in the order of the places of
--- crates/trace/specs/Places.antt. A line has three fields: where it stands, what it is, and its value. What follows a blank in a value is for people.
+-- crates/tracing/specs/Trace/Places.antt. A line has three fields: where it stands, what it is, and its value. What follows a blank in a value is for people.
 use Rattle.std.specs.Prelude.{ℕ, zero, suc, ◌+◌, ◌-◌, ◌*◌, ◌/◌, ◌%◌, ◌^◌, max, Bool, true, false, List, [], ◌∷◌, ◌++◌, length, get_or, take, drop, leb, eqb, Ok, Err, unwrap_or, if◌then◌else◌}
 use mathlib.Core.List.{flat_map}
 use Rattle.std.proofs.Math.Option.{Option, none, some}
 use Rattle.word.specs.Le.{le}
 use Rattle.text.specs.Text.{ascii, decimal, hex, line}
-use Rattle.sheet.specs.Numbers.{signed_decimal, hex_digits}
-use Rattle.ty.specs.Types.{Ty, Ty.missing, Ty.int, Ty.physical, Ty.enum, Ty.real, Ty.array, Ty.fields, Ty.access, Ty.file, Ty.protected, Field, Field.field, Const, Const.plain, Const.other, Table, type_at, const_at, none as no_const}
-use Rattle.ty.specs.Words.{word_of, on_word, rank, round_up}
-use Rattle.ty.specs.Scalars.{scalar_size, elem_size, logic_leaf}
-use Rattle.ty.specs.DescSize.{desc_size}
+use Rattle.text.specs.Sheet.Numbers.{signed_decimal, hex_digits}
+use Rattle.type_table.specs.Rows.Types.{Ty, Ty.missing, Ty.int, Ty.physical, Ty.enum, Ty.real, Ty.array, Ty.fields, Ty.access, Ty.file, Ty.protected, Field, Field.field, Const, Const.plain, Const.other, Table, type_at, const_at, none as no_const}
+use Rattle.type_table.specs.Rows.Words.{word_of, on_word, rank, round_up}
+use Rattle.type_table.specs.Rows.Scalars.{scalar_size, elem_size, logic_leaf}
+use Rattle.type_table.specs.Rows.DescSize.{desc_size}
 use Rattle.layout.specs.Layout.{Dims, under, used_by, desc_word, dims_of, array_of, layout_at, layout_of, on_laid}
 use Rattle.layout.specs.declared.Layout.{Layout}
 

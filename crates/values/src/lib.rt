@@ -2,10 +2,10 @@
 #![tactic(auto)]
 
 ghost use Rattle.std.specs.Prelude.{◌≡◌, length};
-ghost use Rattle.ty.specs.Lent.{lent};
+ghost use Rattle.type_table.specs.Rows.Lent.{lent};
 ghost use Prim.Native.Nat.{◌+◌, ◌≤◌};
 ghost use Rattle.values.specs.Values.{object_text, parts_of};
-ghost use Rattle.sheet.specs.Inner.Sheet.{sheet, with_text};
+ghost use Rattle.text.specs.Sheet.Inner.Sheet.{sheet, with_text};
 ghost use Rattle.values.specs.Inner.Walk.{FoundParts, whole_text};
 ghost use Rattle.values.specs.Calls.{length_answer, text_answer, text_after};
 ghost use Rattle.values.specs.Names.{names_of};
@@ -14,12 +14,13 @@ ghost use Rattle.values.specs.Calls.{answer};
 use names::Lines;
 use path::Path;
 use refusal::Refusal;
-use ty::Table;
+use type_table::rows::Table;
 use walk::ObjectWalk;
 
 pub mod names; // names beside a table, and what they say of a value
 pub mod path; // where a value stands
 pub mod walk; // the walk over one object
+pub mod name_index; // where the names of a table begin, once a table
 
 // How many bytes the descriptor of an object of type t has, and how many its value.
 fn parts(table: &Table, t: u64, data: &[u8]) -> Option<(usize, usize)>
@@ -60,9 +61,9 @@ fn put_object(
         names: *names,
         object: &data[..k + size],
     };
-    let mut n = sheet::literal(out, 0, b"descriptor,");
-    n = sheet::hex(out, n, &data[..k]);
-    n = sheet::push(out, n, b'\n');
+    let mut n = text::sheet::literal(out, 0, b"descriptor,");
+    n = text::sheet::hex(out, n, &data[..k]);
+    n = text::sheet::push(out, n, b'\n');
     walk.cells_in(false, t, &data[..k], 65, &Path::Object, k, out, n)
 }
 

@@ -3,7 +3,7 @@ ghost use Rattle.std.specs.Prelude.{◌≡◌, ◌≤◌, ◌+◌, ◌-◌, ◌^
 ghost use Rattle.values.specs.Values.{remark, field_name};
 ghost use Rattle.values.specs.Names.{text_at, name_at, word_at};
 ghost use Rattle.values.specs.Inner.Walk.{Ends};
-ghost use Rattle.sheet.specs.Inner.Sheet.{sheet, with_text};
+ghost use Rattle.text.specs.Sheet.Inner.Sheet.{sheet, with_text};
 
 /// The names of a table as text, and at which bytes they begin: a name ends before the first byte
 /// below 32, a word before the first below 33. A place that is missing or past the text gives an
@@ -90,8 +90,8 @@ pub fn put_word(names: &Lines, t: u64, k: u64, out: &mut [u8], at: usize) -> usi
     if word.is_empty() {
         return at;
     }
-    let n = sheet::push(out, at, b' ');
-    sheet::literal(out, n, word)
+    let n = text::sheet::push(out, at, b' ');
+    text::sheet::literal(out, n, word)
 }
 
 // Puts a field's name, or its number where it has none.
@@ -99,7 +99,7 @@ pub fn put_field(name: &[u8], i: u64, out: &mut [u8], at: usize) -> usize
     ensures { sheet out.new result ≡ with_text (sheet out.old at) (field_name name.now i) }
 {
     if name.is_empty() {
-        return sheet::decimal(out, at, i);
+        return text::sheet::decimal(out, at, i);
     }
-    sheet::literal(out, at, name)
+    text::sheet::literal(out, at, name)
 }

@@ -1,10 +1,11 @@
 // Where a value stands in its object: as it is written after the object's own name.
 ghost use Rattle.std.specs.Prelude.{◌≡◌, ◌+◌, ◌-◌, ◌^◌, ◌<◌, ◌≤◌, ◌++◌, [], ◌∷◌, drop};
 ghost use Rattle.values.specs.Values.{number_at, index_from, positions, index_text, direction, bound_text, bounds_text, field_path, element_path};
-ghost use Rattle.sheet.specs.Inner.Sheet.{sheet, with_text};
+ghost use Rattle.text.specs.Sheet.Inner.Sheet.{sheet, with_text};
 ghost use Rattle.values.specs.Inner.Paths.{path_text};
 
 use crate::names;
+use type_table::rows;
 
 // The object itself; a field by its name and its number in the record; an element by its number, under the bounds of so many dimensions.
 #[derive(Clone, Copy)]
@@ -44,8 +45,8 @@ pub fn number(data: &[u8], at: usize, n: usize) -> u64
 fn index_from(left: u64, dir: u64, k: u64) -> u64
     ensures { result ≡ index_from left dir k }
 {
-    let r = ty::rank_of(left);
-    ty::rank_of(if dir == 1 {
+    let r = rows::rank_of(left);
+    rows::rank_of(if dir == 1 {
         r.saturating_sub(k)
     } else {
         r.wrapping_add(k)
@@ -83,12 +84,12 @@ fn put_index(dims: u64, bounds: &[u8], k: u64, out: &mut [u8], at: usize) -> usi
     let left = number(bounds, 0, 8);
     let dir = number(bounds, 16, 8);
     if dims == 1 {
-        return sheet::signed_decimal(out, at, HALF, index_from(left, dir, k));
+        return text::sheet::signed_decimal(out, at, HALF, index_from(left, dir, k));
     }
     let below = rest(bounds);
     let m = positions(dims - 1, below);
-    let mut n = sheet::signed_decimal(out, at, HALF, index_from(left, dir, k / m));
-    n = sheet::push(out, n, b' ');
+    let mut n = text::sheet::signed_decimal(out, at, HALF, index_from(left, dir, k / m));
+    n = text::sheet::push(out, n, b' ');
     put_index(dims - 1, below, k % m, out, n)
 }
 
@@ -109,9 +110,9 @@ fn put_bound(bounds: &[u8], out: &mut [u8], at: usize) -> usize
     let left = number(bounds, 0, 8);
     let right = number(bounds, 8, 8);
     let dir = number(bounds, 16, 8);
-    let mut n = sheet::signed_decimal(out, at, HALF, left);
-    n = sheet::literal(out, n, direction(dir));
-    sheet::signed_decimal(out, n, HALF, right)
+    let mut n = text::sheet::signed_decimal(out, at, HALF, left);
+    n = text::sheet::literal(out, n, direction(dir));
+    text::sheet::signed_decimal(out, n, HALF, right)
 }
 
 // The bounds of all dimensions.
@@ -125,7 +126,7 @@ pub fn put_bounds(dims: u64, bounds: &[u8], out: &mut [u8], at: usize) -> usize
     if dims == 1 {
         return n;
     }
-    let m = sheet::push(out, n, b' ');
+    let m = text::sheet::push(out, n, b' ');
     put_bounds(dims - 1, rest(bounds), out, m)
 }
 
@@ -137,14 +138,14 @@ pub fn put_path(path: &Path, out: &mut [u8], at: usize) -> usize
         Path::Object => at,
         Path::Field(up, name, i) => {
             let mut n = put_path(up, out, at);
-            n = sheet::push(out, n, b'.');
+            n = text::sheet::push(out, n, b'.');
             names::put_field(name, *i, out, n)
         }
         Path::Element(up, dims, bounds, k) => {
             let mut n = put_path(up, out, at);
-            n = sheet::push(out, n, b'(');
+            n = text::sheet::push(out, n, b'(');
             n = put_index(*dims, bounds, *k, out, n);
-            sheet::push(out, n, b')')
+            text::sheet::push(out, n, b')')
         }
     }
 }

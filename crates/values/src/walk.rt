@@ -1,9 +1,9 @@
 // The walk over one object: its cells, as the layout of its type says.
 ghost use Rattle.std.specs.Prelude.{◌≡◌, ◌+◌, ◌-◌, ◌*◌, ◌/◌, ◌^◌, ◌<◌, ◌≤◌, Bool, length, get_or};
 ghost use mathlib.Core.Logic.{◌⊎◌};
-ghost use Rattle.ty.specs.Inner.Rows.{bare};
+ghost use Rattle.type_table.specs.Rows.Inner.Rows.{bare};
 ghost use Rattle.values.specs.Values.{class_word, scalar_text, width, handle_remark, code_letter, code_at, bit_at, cell_text, scalar, logic};
-ghost use Rattle.sheet.specs.Inner.Sheet.{sheet, with_text};
+ghost use Rattle.text.specs.Sheet.Inner.Sheet.{sheet, with_text};
 ghost use Rattle.values.specs.Inner.Paths.{path_text};
 ghost use Rattle.values.specs.Names.{names_of, word_at};
 ghost use Rattle.values.specs.Inner.Walk.{NextPlace, head_text, type_text, part_text, array_text, elements_text, fields_text};
@@ -11,7 +11,8 @@ ghost use Rattle.values.specs.Inner.Walk.{NextPlace, head_text, type_text, part_
 use crate::names::Lines;
 use crate::path::Path;
 use crate::{names, path};
-use ty::{Entry, NO_CONST, Table};
+use type_table::rows;
+use type_table::rows::{Entry, NO_CONST, Table};
 
 // What a scalar is.
 fn class_word(e: Entry) -> &'static [u8]
@@ -36,9 +37,9 @@ fn width(elem: bool, e: Entry) -> u64
     ensures bound { result ≤ 8 }
 {
     let n = if elem {
-        ty::elem_size(e)
+        rows::elem_size(e)
     } else {
-        ty::scalar_size(e)
+        rows::scalar_size(e)
     };
     n.unwrap_or(0)
 }
@@ -48,10 +49,10 @@ fn put_handle_remark(h: u64, out: &mut [u8], at: usize) -> usize
     ensures { sheet out.new result ≡ with_text (sheet out.old at) (handle_remark h) }
 {
     if h == 0 {
-        return sheet::literal(out, at, b" null");
+        return text::sheet::literal(out, at, b" null");
     }
-    let n = sheet::literal(out, at, b" slot ");
-    sheet::decimal(out, n, h / 4294967296 % 16777216)
+    let n = text::sheet::literal(out, at, b" slot ");
+    text::sheet::decimal(out, n, h / 4294967296 % 16777216)
 }
 
 // Where the negative numbers of n bytes begin.
@@ -72,27 +73,27 @@ fn put_value(names: &Lines, t: u64, n: u64, x: u64, e: Entry, out: &mut [u8], at
     ensures { sheet out.new result ≡ with_text (sheet out.old at) (scalar_text (word_at names.now.text.now names.now.types.now names.now.words.now t) n x (bare e)) }
 {
     match e {
-        Entry::Int { .. } => sheet::signed_decimal(out, at, half(n), x),
+        Entry::Int { .. } => text::sheet::signed_decimal(out, at, half(n), x),
         Entry::Physical => {
-            let m = sheet::signed_decimal(out, at, 9223372036854775808, x);
+            let m = text::sheet::signed_decimal(out, at, 9223372036854775808, x);
             names::put_word(names, t, 0, out, m)
         }
         Entry::Enum { .. } => {
-            let m = sheet::decimal(out, at, x);
+            let m = text::sheet::decimal(out, at, x);
             names::put_word(names, t, x, out, m)
         }
-        Entry::Real => sheet::hex_digits(out, at, 16, x),
+        Entry::Real => text::sheet::hex_digits(out, at, 16, x),
         Entry::Array { .. } => at,
         Entry::Record { .. } => at,
         Entry::Access => {
-            let m = sheet::decimal(out, at, x);
+            let m = text::sheet::decimal(out, at, x);
             put_handle_remark(x, out, m)
         }
         Entry::Protected => {
-            let m = sheet::decimal(out, at, x);
+            let m = text::sheet::decimal(out, at, x);
             put_handle_remark(x, out, m)
         }
-        Entry::File => sheet::decimal(out, at, x),
+        Entry::File => text::sheet::decimal(out, at, x),
     }
 }
 
@@ -158,9 +159,9 @@ impl ObjectWalk<'_, '_, '_> {
         ensures { sheet out.new result ≡ with_text (sheet out.old at) (head_text (path_text path.now) what.now) }
     {
         let mut n = path::put_path(path, out, at);
-        n = sheet::push(out, n, b',');
-        n = sheet::literal(out, n, what);
-        sheet::push(out, n, b',')
+        n = text::sheet::push(out, n, b',');
+        n = text::sheet::literal(out, n, what);
+        text::sheet::push(out, n, b',')
     }
 
     // A scalar of type t, which is e.
@@ -180,7 +181,7 @@ impl ObjectWalk<'_, '_, '_> {
         let x = path::number(self.object, at, size as usize);
         let mut m = self.put_head(path, class_word(e), out, n);
         m = put_value(&self.names, t, size, x, e, out, m);
-        sheet::push(out, m, b'\n')
+        text::sheet::push(out, m, b'\n')
     }
 
     // The positions of a logic array, the first in order first.
@@ -190,9 +191,9 @@ impl ObjectWalk<'_, '_, '_> {
     {
         let mut m = self.put_head(path, b"Logic", out, n);
         for j in 0..count {
-            m = sheet::push(out, m, letter(code_at(self.object, at, count - 1 - j)));
+            m = text::sheet::push(out, m, letter(code_at(self.object, at, count - 1 - j)));
         }
-        sheet::push(out, m, b'\n')
+        text::sheet::push(out, m, b'\n')
     }
 
     // A value of type t under a descriptor.
@@ -287,7 +288,7 @@ impl ObjectWalk<'_, '_, '_> {
         };
         let mut m = self.put_head(path, b"Array", out, n);
         m = path::put_bounds(dims, desc, out, m);
-        m = sheet::push(out, m, b'\n');
+        m = text::sheet::push(out, m, b'\n');
         if self.table.logic_leaf(t) != 0 {
             return self.put_logic(path, l.count, at, out, m);
         }
@@ -357,10 +358,10 @@ impl ObjectWalk<'_, '_, '_> {
             let Ok(l) = layout::layout_field(&self.table, t, c, &desc[used..], 64) else {
                 return m;
             };
-            let Some(o) = ty::align_up(off, l.align) else {
+            let Some(o) = rows::align_up(off, l.align) else {
                 return m;
             };
-            let Some(e) = ty::sum(o, l.size) else {
+            let Some(e) = rows::sum(o, l.size) else {
                 return m;
             };
             if self.object.len() - at < o as usize {

@@ -6,14 +6,14 @@ use Prim.Native.Nat.{ℕ}
 use Rattle.word.specs.Result.{Result}
 use Rattle.refusal.specs.Told.{told, answered, refused_by, nothing, Reply}
 use Rattle.refusal.specs.declared.Answer.{Answer}
-use Rattle.ty.specs.Check.{table_good}
-use Rattle.traced.specs.Listing.{written_to}
-use Rattle.traced.specs.Inner.Lists.{Lists}
-use Rattle.frame.specs.Listing.{Roots, handles_to, addresses_to}
+use Rattle.type_table.specs.Rows.Check.{table_good}
+use Rattle.tracing.specs.Traced.Listing.{written_to}
+use Rattle.tracing.specs.Traced.Inner.Lists.{Lists}
+use Rattle.tracing.specs.Frame.Listing.{Roots, handles_to, addresses_to}
 use Rattle.yexwalu.specs.Table.{on_table}
 use Rattle.yexwalu.specs.Handles.{HandlesCall, RootsCall}
 use Rattle.yexwalu.proofs.TableCalls.{table-bad, table-good}
-use Rattle.frame.specs.Inner.Frames.{Frames}
+use Rattle.tracing.specs.Frame.Inner.Frames.{Frames}
 use lib.ListN.{length}
 
 abbrev counts : Result Roots → Answer

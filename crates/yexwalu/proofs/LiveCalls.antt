@@ -4,9 +4,9 @@ use mathlib.Core.Bool.{Bool}
 use mathlib.Core.List.{List}
 use Prim.Native.Nat.{ℕ}
 use Rattle.refusal.specs.declared.Answer.{Answer}
-use Rattle.code.specs.Lent.{Lent}
-use Rattle.roots.specs.Calls.{LiveAtCall}
-use Rattle.root_map.specs.Calls.{LiveRefsCall}
+use Rattle.control_flow.specs.Code.Lent.{Lent}
+use Rattle.liveness.specs.Roots.Calls.{LiveAtCall}
+use Rattle.liveness.specs.RootMap.Calls.{LiveRefsCall}
 
 pub live-at-told : {l : Lent} {t t' : ℕ → Bool} {pc : ℕ} {regs rows regs' rows' : List ℕ} {r r' : Answer} → LiveAtCall l t pc regs rows regs' rows' r → t ≡ t' → r' ≡ r
     → LiveAtCall l t' pc regs rows regs' rows' r'

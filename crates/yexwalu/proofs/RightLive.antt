@@ -17,12 +17,12 @@ use Rattle.word.proofs.PutLaws.{mid-put}
 use Rattle.word.proofs.Bools.{or_cases}
 use Rattle.refusal.specs.Told.{answered, here, nothing}
 use Rattle.refusal.specs.declared.Answer.{Answer}
-use Rattle.flow.specs.Function.{Function, LiveList, safepoint, safepoints}
-use Rattle.flow.proofs.Validity.{map-unique}
-use Rattle.code.specs.Lent.{Lent, function, right, need}
-use Rattle.roots.specs.Calls.{after, registers_at, live_at_answer, LiveAtCall}
-use Rattle.roots.proofs.Answers.{registers-live}
-use Rattle.root_map.specs.Calls.{limits, Size, points_in, registers_in, points_of, registers_of, live_refs_answer, LiveRefsCall}
+use Rattle.control_flow.specs.Flow.Function.{Function, LiveList, safepoint, safepoints}
+use Rattle.control_flow.proofs.FlowLaws.Validity.{map-unique}
+use Rattle.control_flow.specs.Code.Lent.{Lent, function, right, need}
+use Rattle.liveness.specs.Roots.Calls.{after, registers_at, live_at_answer, LiveAtCall}
+use Rattle.liveness.proofs.RootsLaws.Answers.{registers-live}
+use Rattle.liveness.specs.RootMap.Calls.{limits, Size, points_in, registers_in, points_of, registers_of, live_refs_answer, LiveRefsCall}
 use Rattle.yexwalu.specs.RightLive.{RightLiveAt, EachLive, LiveMap, RightLiveRefs}
 
 -- a list that was written at the front of one with room for it

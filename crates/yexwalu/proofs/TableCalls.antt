@@ -4,7 +4,7 @@ use mathlib.Core.Bool.{Bool, true, false}
 use mathlib.Core.List.{List}
 use Prim.Native.Nat.{ℕ}
 use Rattle.word.specs.Result.{Result, refused}
-use Rattle.ty.specs.Check.{table_good}
+use Rattle.type_table.specs.Rows.Check.{table_good}
 use Rattle.yexwalu.specs.Table.{on_table}
 
 module _ (w fs cs b : List ℕ) {g : Bool} (eg : g ≡ table_good w fs cs b) {A : Type 0} (call : Result A) where

@@ -8,17 +8,17 @@ use Rattle.std.specs.Prelude.{Ok}
 use Rattle.word.specs.Result.{Result, refused}
 use Rattle.refusal.specs.Told.{told as told_reply, answered, refused_by, here, nothing}
 use Rattle.refusal.specs.declared.Answer.{Answer}
-use Rattle.ty.specs.Check.{table_good}
-use Rattle.ty.specs.Walks.{has_handles}
-use Rattle.ty.specs.DescSize.{desc_size}
-use Rattle.ty.specs.View.{types_of, table_of}
+use Rattle.type_table.specs.Rows.Check.{table_good}
+use Rattle.type_table.specs.Rows.Walks.{has_handles}
+use Rattle.type_table.specs.Rows.DescSize.{desc_size}
+use Rattle.type_table.specs.Rows.View.{types_of, table_of}
 use Rattle.layout.specs.Offsets.{Values, layout_call, written_by}
 use Rattle.yexwalu.specs.Table.{on_table}
 use Rattle.yexwalu.specs.Types.{laid, layout_called, size_called, handles_called}
-use Rattle.held_types.specs.declared.Laying.{Laying as LayoutAnswer}
-use Rattle.held_types.proofs.Telling.{size-exact, yes-no}
+use Rattle.layout.specs.declared.numbers.Laying.{Laying as LayoutAnswer}
+use Rattle.layout.proofs.NumbersLaws.Telling.{size-exact, yes-no}
 use Rattle.yexwalu.proofs.TableCalls.{table-bad, table-good}
-use Rattle.held_types.specs.Laid.{sized}
+use Rattle.layout.specs.Numbers.Laid.{sized}
 
 module _ (w fs cs b : List ℕ) (t : ℕ) {g : Bool} (eg : g ≡ table_good w fs cs b) where
   -- refused: whatever the call is

@@ -4,8 +4,8 @@ use Rattle.std.specs.Prelude.{ℕ, List, ◌≡◌, length}
 use Rattle.word.specs.Result.{Result}
 use Rattle.refusal.specs.Told.{answered, nothing}
 use Rattle.refusal.specs.declared.Answer.{Answer}
-use Rattle.traced.specs.Listing.{written_to}
-use Rattle.frame.specs.Listing.{Roots, handles_to, addresses_to}
+use Rattle.tracing.specs.Traced.Listing.{written_to}
+use Rattle.tracing.specs.Frame.Listing.{Roots, handles_to, addresses_to}
 
 pub record HandlesCall (call : Result (List ℕ)) (out out' : List ℕ) (r : Answer) : Type 0 where
   pub answer : r ≡ answered length nothing call

@@ -4,3 +4,12 @@ pub mod Types
 pub mod Handles
 pub mod Live
 pub mod RightLive
+pub mod Questions
+pub mod Objects
+pub mod Pages
+pub mod Collections
+pub mod Slots
+pub mod Scripts
+pub mod Rehearsals
+pub mod RootLists
+pub mod Saves

@@ -4,8 +4,8 @@
 use Rattle.std.specs.Prelude.{◌≡◌, ◌⊎◌, Bool, List, [], ◌∷◌, ℕ, ◌-◌, ◌≤◌, ◌<◌, length, take}
 use Rattle.word.specs.Run.{run}
 use Rattle.refusal.specs.declared.Answer.{Answer}
-use Rattle.flow.specs.Function.{Function, LiveList, safepoints}
-use Rattle.code.specs.Lent.{Lent, function}
+use Rattle.control_flow.specs.Flow.Function.{Function, LiveList, safepoints}
+use Rattle.control_flow.specs.Code.Lent.{Lent, function}
 
 -- ---- live_at
 

@@ -1,7 +1,7 @@
 -- A call with a type table (SCOPE, "Order of refusals": 10 before anything else).
 use Rattle.std.specs.Prelude.{ℕ, List, if◌then◌else◌}
 use Rattle.word.specs.Result.{Result, refused}
-use Rattle.ty.specs.Check.{table_good}
+use Rattle.type_table.specs.Rows.Check.{table_good}
 
 -- r where the table is taken
 unfoldable pub on_table : {A : Type 0} → (types fields consts bytes : List ℕ) → Result A → Result A

@@ -1,12 +1,12 @@
 -- What the calls about types answer (SCOPE, "Layouts"; 10, then 11 or 12, then 7).
 use Rattle.std.specs.Prelude.{ℕ, List, if◌then◌else◌}
 use Rattle.word.specs.Result.{Result, ok}
-use Rattle.ty.specs.Walks.{desc_bytes, has_handles}
-use Rattle.ty.specs.View.{types_of, table_of}
+use Rattle.type_table.specs.Rows.Walks.{desc_bytes, has_handles}
+use Rattle.type_table.specs.Rows.View.{types_of, table_of}
 use Rattle.layout.specs.Offsets.{Values, layout_call}
 use Rattle.yexwalu.specs.Table.{on_table}
-use Rattle.held_types.specs.Laid as layings
-use Rattle.held_types.specs.declared.Laying.{Laying}
+use Rattle.layout.specs.Numbers.Laid as layings
+use Rattle.layout.specs.declared.numbers.Laying.{Laying}
 
 -- a layout in numbers, zeros after a refusal
 abbrev pub laid : Result Values → Laying

@@ -1,17 +1,18 @@
 // Calls that list handles, in the order in which they are traced: 10, then 13, then 7. After a refusal the lent lists are as they were. Those on a heap and a type table stand in `slot_door`.
 ghost use Rattle.std.specs.Prelude.{length};
-ghost use Rattle.ty.specs.View.{table_of};
-ghost use Rattle.trace.specs.Places.{value_handles, object_handles};
-ghost use Rattle.traced.specs.Listing.{listing};
-ghost use Rattle.frame.specs.Frame.{frame_handles, frame_addresses};
-ghost use Rattle.frame.specs.Listing.{roots_listing};
+ghost use Rattle.type_table.specs.Rows.View.{table_of};
+ghost use Rattle.tracing.specs.Trace.Places.{value_handles, object_handles};
+ghost use Rattle.tracing.specs.Traced.Listing.{listing};
+ghost use Rattle.tracing.specs.Frame.Frame.{frame_handles, frame_addresses};
+ghost use Rattle.tracing.specs.Frame.Listing.{roots_listing};
 ghost use Rattle.yexwalu.specs.Table.{on_table};
 ghost use Rattle.yexwalu.specs.Handles.{HandlesCall, RootsCall};
 
+pub use crate::slots::{yexwalu_slot_handles as slot_handles, yexwalu_traceable as traceable};
 use refusal::{Answer, Refusal};
-pub use slot_door::{yexwalu_slot_handles as slot_handles, yexwalu_traceable as traceable};
-use ty::Table;
-use ty_check::check_table;
+use tracing::{frame, traced};
+use type_table::check::check_table;
+use type_table::rows::Table;
 pub use yexwalu_object_handles as object_handles;
 pub use yexwalu_slot_roots as slot_roots;
 pub use yexwalu_value_handles as value_handles;

@@ -3,30 +3,31 @@ ghost use Rattle.std.specs.Prelude.{◌≡◌};
 ghost use Rattle.refusal.specs.Told.{nothing};
 ghost use Rattle.heap.specs.Lent.{lent};
 ghost use Rattle.heap.specs.Calls.{write as written};
-ghost use Rattle.door.specs.HeapCalls.{outcome, heap_call};
-ghost use Rattle.collect_door.specs.Calls.{collect_call};
-ghost use Rattle.collect_door.specs.Demand.{RightlyCollected};
+ghost use Rattle.validate.specs.Door.HeapCalls.{outcome, heap_call};
+ghost use Rattle.yexwalu.specs.Collections.Calls.{collect_call};
+ghost use Rattle.yexwalu.specs.Collections.Demand.{RightlyCollected};
 
-pub use collect_door::joined::yexwalu_collect_joined as collect_joined;
-use door::Done;
-use heap::Heap;
-pub use heap_door::{
+pub use crate::collections::joined::yexwalu_collect_joined as collect_joined;
+pub use crate::objects::{
+    yexwalu_alloc as alloc, yexwalu_alloc_from as alloc_from, yexwalu_free as free,
+    yexwalu_new as new, yexwalu_recycle as recycle, yexwalu_take as take,
+};
+pub use crate::questions::{
     yexwalu_data as data, yexwalu_edit as edit, yexwalu_gc_due as gc_due,
     yexwalu_has_quarantine as has_quarantine, yexwalu_is_plain as is_plain, yexwalu_kind as kind,
     yexwalu_live as live, yexwalu_reclaim_due as reclaim_due, yexwalu_reissue as reissue,
     yexwalu_resolve as resolve, yexwalu_seal as seal, yexwalu_slots as slots,
     yexwalu_stamp as stamp,
 };
-pub use object_door::{
-    yexwalu_alloc as alloc, yexwalu_alloc_from as alloc_from, yexwalu_free as free,
-    yexwalu_new as new, yexwalu_recycle as recycle, yexwalu_take as take,
-};
+pub use crate::rehearsals::yexwalu_rehearse as rehearse;
+pub use crate::root_lists::collecting::yexwalu_collect_wanted as collect_wanted;
+pub use crate::root_lists::yexwalu_roots_for as roots_for;
+pub use crate::saves::{yexwalu_order as order, yexwalu_same as same};
+pub use crate::scripts::yexwalu_run as run;
+use crate::{collections, questions};
+use heap::Heap;
 use refusal::Answer;
-pub use rehearse_door::yexwalu_rehearse as rehearse;
-pub use run_door::yexwalu_run as run;
-pub use same_door::{yexwalu_order as order, yexwalu_same as same};
-pub use wanted_door::collecting::yexwalu_collect_wanted as collect_wanted;
-pub use wanted_door::yexwalu_roots_for as roots_for;
+use validate::door::Done;
 
 // `yexwalu_write` under its short name. An import can't rename it so, since a macro is called `write`.
 pub fn write(
@@ -44,7 +45,7 @@ pub fn write(
         ≡ heap_call nothing nothing marks.old work.old (lent heap narrow.now wide.old pool.old)
         (λ h. written h i at bytes.now) }
 {
-    heap_door::yexwalu_write(heap, narrow, wide, pool, i, at, bytes, marks, work)
+    questions::yexwalu_write(heap, narrow, wide, pool, i, at, bytes, marks, work)
 }
 
 // `yexwalu_collect` under its short name. An import can't rename it so, since a crate is called `collect`.
@@ -71,7 +72,7 @@ pub fn collect(
         marks.old work.old (lent heap narrow.old wide.old pool.old)
         (outcome result.answer (lent result.heap narrow.new wide.new pool.new) marks.new work.new) }
 {
-    collect_door::yexwalu_collect(
+    collections::yexwalu_collect(
         types, fields, consts, bytes, heap, narrow, wide, pool, roots, pins, marks, work,
     )
 }

@@ -1,13 +1,14 @@
 // The live map of a function that is lent as columns: `kinds`, one an instruction; `ends`, three an instruction, where its registers written, its registers
 // read and its target blocks end in `refs`; `blocks`, start and end of each; `classes`, one a register.
 ghost use Rattle.std.specs.Prelude.{◌≡◌};
-ghost use Rattle.roots.specs.Calls.{LiveAtCall};
-ghost use Rattle.code.specs.Inner.Columns.{wanted};
-ghost use Rattle.root_map.specs.Calls.{LiveRefsCall};
+ghost use Rattle.liveness.specs.Roots.Calls.{LiveAtCall};
+ghost use Rattle.control_flow.specs.Code.Inner.Columns.{wanted};
+ghost use Rattle.liveness.specs.RootMap.Calls.{LiveRefsCall};
 ghost use Rattle.yexwalu.specs.Live.{asked};
 ghost use Rattle.yexwalu.specs.RightLive.{RightLiveAt, RightLiveRefs};
 
-use code::{Code, Tracked};
+use control_flow::code::{Code, Tracked};
+use liveness::{root_map, roots};
 use refusal::Answer;
 pub use yexwalu_live_at as live_at;
 pub use yexwalu_live_refs as live_refs;

@@ -1,14 +1,15 @@
 // Calls about types and layouts: 10, then 11 or 12, then 7.
 ghost use Rattle.std.specs.Prelude.{◌≡◌, length};
 ghost use Rattle.refusal.specs.Told.{answered, here, nothing};
-ghost use Rattle.ty.specs.View.{table_of};
+ghost use Rattle.type_table.specs.Rows.View.{table_of};
 ghost use Rattle.layout.specs.Offsets.{offsets_of, written_by};
 ghost use Rattle.yexwalu.specs.Types.{laid, layout_called, size_called, handles_called};
 
-use held_types::Laying;
+use layout::numbers;
+use layout::numbers::Laying;
 use refusal::{Answer, Refusal};
-use ty::Table;
-use ty_check::check_table;
+use type_table::check::check_table;
+use type_table::rows::Table;
 pub use yexwalu_desc_size as desc_size;
 pub use yexwalu_has_handles as has_handles;
 
@@ -83,7 +84,7 @@ pub fn yexwalu_desc_size(
     if !check_table(&table) {
         return Answer::from(Err(Refusal::TypeTable));
     }
-    held_types::tell_size(&table, t)
+    numbers::tell_size(&table, t)
 }
 
 // Whether values of type t can hold handles: 1 or 0.

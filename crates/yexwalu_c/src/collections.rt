@@ -1,12 +1,12 @@
-// For C: the calls of collect_door.
+// For C: the calls of yexwalu::collections.
 ghost use Rattle.std.specs.Prelude.{◌≡◌};
 ghost use Rattle.heap.specs.Lent.{lent};
-ghost use Rattle.door.specs.HeapCalls.{outcome};
-ghost use Rattle.collect_door.specs.Calls.{collect_call};
-ghost use Rattle.collect_door.specs.Demand.{RightlyCollected};
+ghost use Rattle.validate.specs.Door.HeapCalls.{outcome};
+ghost use Rattle.yexwalu.specs.Collections.Calls.{collect_call};
+ghost use Rattle.yexwalu.specs.Collections.Demand.{RightlyCollected};
 
-use door::Done;
 use heap::Heap;
+use validate::door::Done;
 
 #[unsafe(no_mangle)]
 pub extern "C" fn yexwalu_collect(
@@ -32,7 +32,7 @@ pub extern "C" fn yexwalu_collect(
         marks.old work.old (lent heap narrow.old wide.old pool.old)
         (outcome result.answer (lent result.heap narrow.new wide.new pool.new) marks.new work.new) }
 {
-    collect_door::yexwalu_collect(
+    yexwalu::collections::yexwalu_collect(
         types, fields, consts, bytes, heap, narrow, wide, pool, roots, pins, marks, work,
     )
 }

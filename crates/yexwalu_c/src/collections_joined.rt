@@ -1,12 +1,12 @@
-// For C: the calls of collect_door, joined.
+// For C: the calls of yexwalu::collections::joined.
 ghost use Rattle.std.specs.Prelude.{◌≡◌, [], ◌∷◌};
 ghost use Rattle.heap.specs.Lent.{lent};
-ghost use Rattle.door.specs.HeapCalls.{outcome_of};
-ghost use Rattle.collect_door.specs.Calls.{joined_call};
-ghost use Rattle.collect_door.specs.Demand.{Demand};
+ghost use Rattle.validate.specs.Door.HeapCalls.{outcome_of};
+ghost use Rattle.yexwalu.specs.Collections.Calls.{joined_call};
+ghost use Rattle.yexwalu.specs.Collections.Demand.{Demand};
 
-use door::Done;
 use heap::Heap;
+use validate::door::Done;
 
 #[unsafe(no_mangle)]
 pub extern "C" fn yexwalu_collect_joined(
@@ -66,7 +66,7 @@ pub extern "C" fn yexwalu_collect_joined(
         (outcome_of result.answer (lent result.heap narrow.new wide.new pool.new)
         (marks.new ∷ work.new ∷ rows.new ∷ [])) }
 {
-    collect_door::joined::yexwalu_collect_joined(
+    yexwalu::collections::joined::yexwalu_collect_joined(
         types, fields, consts, bytes, heap, narrow, wide, pool, kinds, ends, refs, blocks, classes,
         pc, values, map, memory, pins, addresses, marks, work, rows,
     )

@@ -1,12 +1,12 @@
-// For C: the calls of wanted_door, collecting.
+// For C: the calls of yexwalu::root_lists::collecting.
 ghost use Rattle.std.specs.Prelude.{◌≡◌};
 ghost use Rattle.heap.specs.Lent.{lent};
-ghost use Rattle.door.specs.HeapCalls.{outcome};
-ghost use Rattle.wanted_door.specs.RootsFor.{roots_out};
-ghost use Rattle.wanted_door.specs.CollectWanted.{wanted_call, KeepsWanted};
+ghost use Rattle.validate.specs.Door.HeapCalls.{outcome};
+ghost use Rattle.yexwalu.specs.RootLists.RootsFor.{roots_out};
+ghost use Rattle.yexwalu.specs.RootLists.CollectWanted.{wanted_call, KeepsWanted};
 
-use door::Done;
 use heap::Heap;
+use validate::door::Done;
 
 #[unsafe(no_mangle)]
 pub extern "C" fn yexwalu_collect_wanted(
@@ -59,7 +59,7 @@ pub extern "C" fn yexwalu_collect_wanted(
         (outcome result.answer (lent result.heap narrow.new wide.new pool.new) marks.new work.new)
         out.new }
 {
-    wanted_door::collecting::yexwalu_collect_wanted(
+    yexwalu::root_lists::collecting::yexwalu_collect_wanted(
         types, fields, consts, bytes, heap, narrow, wide, pool, pins, wanted, out, marks, work,
     )
 }

@@ -1,10 +1,10 @@
-// For C: the calls of yexwalu, handles.
+// For C: the calls of yexwalu::handles.
 ghost use Rattle.std.specs.Prelude.{length};
-ghost use Rattle.ty.specs.View.{table_of};
-ghost use Rattle.trace.specs.Places.{value_handles, object_handles};
-ghost use Rattle.traced.specs.Listing.{listing};
-ghost use Rattle.frame.specs.Frame.{frame_handles, frame_addresses};
-ghost use Rattle.frame.specs.Listing.{roots_listing};
+ghost use Rattle.type_table.specs.Rows.View.{table_of};
+ghost use Rattle.tracing.specs.Trace.Places.{value_handles, object_handles};
+ghost use Rattle.tracing.specs.Traced.Listing.{listing};
+ghost use Rattle.tracing.specs.Frame.Frame.{frame_handles, frame_addresses};
+ghost use Rattle.tracing.specs.Frame.Listing.{roots_listing};
 ghost use Rattle.yexwalu.specs.Table.{on_table};
 ghost use Rattle.yexwalu.specs.Handles.{HandlesCall, RootsCall};
 

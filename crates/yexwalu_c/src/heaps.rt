@@ -1,16 +1,16 @@
-// For C: the calls of heap_door.
+// For C: the calls of yexwalu::questions.
 ghost use Rattle.std.specs.Prelude.{◌≡◌, length};
 ghost use Rattle.word.specs.Result.{ok};
 ghost use Rattle.refusal.specs.Told.{here, nothing};
 ghost use Rattle.heap.specs.State.{bit};
 ghost use Rattle.heap.specs.Lent.{lent};
 ghost use Rattle.heap.specs.Calls.{gc_due, reclaim_due, has_quarantine, is_plain, live_count, Place, place_at, Kind, kind_at, Stamp, stamp_at, resolve as resolved, edit as edited, write as written, reissue as reissued};
-ghost use Rattle.door.specs.HeapCalls.{asked, heap_ask, outcome, heap_call};
-ghost use Rattle.heap_door.specs.Sealing.{sealing};
+ghost use Rattle.validate.specs.Door.HeapCalls.{asked, heap_ask, outcome, heap_call};
+ghost use Rattle.yexwalu.specs.Questions.Sealing.{sealing};
 
-use door::Done;
 use heap::Heap;
 use refusal::Answer;
+use validate::door::Done;
 
 #[unsafe(no_mangle)]
 pub extern "C" fn yexwalu_gc_due(
@@ -26,7 +26,7 @@ pub extern "C" fn yexwalu_gc_due(
         ≡ heap_ask bit nothing marks.old work.old
         (lent heap narrow.now wide.now pool.now) (λ h. ok (gc_due h threshold)) }
 {
-    heap_door::yexwalu_gc_due(heap, narrow, wide, pool, threshold, marks, work)
+    yexwalu::questions::yexwalu_gc_due(heap, narrow, wide, pool, threshold, marks, work)
 }
 
 #[unsafe(no_mangle)]
@@ -42,7 +42,7 @@ pub extern "C" fn yexwalu_reclaim_due(
         ≡ heap_ask bit nothing marks.old work.old
         (lent heap narrow.now wide.now pool.now) (λ h. ok (reclaim_due h)) }
 {
-    heap_door::yexwalu_reclaim_due(heap, narrow, wide, pool, marks, work)
+    yexwalu::questions::yexwalu_reclaim_due(heap, narrow, wide, pool, marks, work)
 }
 
 #[unsafe(no_mangle)]
@@ -58,7 +58,7 @@ pub extern "C" fn yexwalu_has_quarantine(
         ≡ heap_ask bit nothing marks.old work.old
         (lent heap narrow.now wide.now pool.now) (λ h. ok (has_quarantine h)) }
 {
-    heap_door::yexwalu_has_quarantine(heap, narrow, wide, pool, marks, work)
+    yexwalu::questions::yexwalu_has_quarantine(heap, narrow, wide, pool, marks, work)
 }
 
 #[unsafe(no_mangle)]
@@ -75,7 +75,7 @@ pub extern "C" fn yexwalu_is_plain(
         ≡ heap_ask bit nothing marks.old work.old
         (lent heap narrow.now wide.now pool.now) (λ h. ok (is_plain h tag)) }
 {
-    heap_door::yexwalu_is_plain(heap, narrow, wide, pool, tag, marks, work)
+    yexwalu::questions::yexwalu_is_plain(heap, narrow, wide, pool, tag, marks, work)
 }
 
 #[unsafe(no_mangle)]
@@ -91,7 +91,7 @@ pub extern "C" fn yexwalu_slots(
         ≡ heap_ask here nothing marks.old work.old
         (lent heap narrow.now wide.now pool.now) (λ h. ok (length h.slots)) }
 {
-    heap_door::yexwalu_slots(heap, narrow, wide, pool, marks, work)
+    yexwalu::questions::yexwalu_slots(heap, narrow, wide, pool, marks, work)
 }
 
 #[unsafe(no_mangle)]
@@ -107,7 +107,7 @@ pub extern "C" fn yexwalu_live(
         ≡ heap_ask here nothing marks.old work.old
         (lent heap narrow.now wide.now pool.now) (λ h. ok (live_count h.slots)) }
 {
-    heap_door::yexwalu_live(heap, narrow, wide, pool, marks, work)
+    yexwalu::questions::yexwalu_live(heap, narrow, wide, pool, marks, work)
 }
 
 #[unsafe(no_mangle)]
@@ -124,7 +124,7 @@ pub extern "C" fn yexwalu_resolve(
         ≡ heap_ask here nothing marks.old work.old
         (lent heap narrow.now wide.now pool.now) (λ h. resolved h handle) }
 {
-    heap_door::yexwalu_resolve(heap, narrow, wide, pool, handle, marks, work)
+    yexwalu::questions::yexwalu_resolve(heap, narrow, wide, pool, handle, marks, work)
 }
 
 #[unsafe(no_mangle)]
@@ -141,7 +141,7 @@ pub extern "C" fn yexwalu_data(
         ≡ heap_ask (λ (p : Place). p.from) (λ (p : Place). p.size) marks.old work.old
         (lent heap narrow.now wide.now pool.now) (λ h. place_at h i) }
 {
-    heap_door::yexwalu_data(heap, narrow, wide, pool, i, marks, work)
+    yexwalu::questions::yexwalu_data(heap, narrow, wide, pool, i, marks, work)
 }
 
 #[unsafe(no_mangle)]
@@ -158,7 +158,7 @@ pub extern "C" fn yexwalu_kind(
         ≡ heap_ask (λ (k : Kind). k.kind) (λ (k : Kind). k.type) marks.old work.old
         (lent heap narrow.now wide.now pool.now) (λ h. kind_at h i) }
 {
-    heap_door::yexwalu_kind(heap, narrow, wide, pool, i, marks, work)
+    yexwalu::questions::yexwalu_kind(heap, narrow, wide, pool, i, marks, work)
 }
 
 #[unsafe(no_mangle)]
@@ -175,7 +175,7 @@ pub extern "C" fn yexwalu_stamp(
         ≡ heap_ask (λ (s : Stamp). s.generation) (λ (s : Stamp). s.writes) marks.old work.old
         (lent heap narrow.now wide.now pool.now) (λ h. stamp_at h i) }
 {
-    heap_door::yexwalu_stamp(heap, narrow, wide, pool, i, marks, work)
+    yexwalu::questions::yexwalu_stamp(heap, narrow, wide, pool, i, marks, work)
 }
 
 #[unsafe(no_mangle)]
@@ -194,7 +194,7 @@ pub extern "C" fn yexwalu_edit(
         ≡ heap_call here nothing marks.old work.old (lent heap narrow.old wide.old pool.old)
         (λ h. edited (length pool.old) h handle bytes.now start) }
 {
-    heap_door::yexwalu_edit(heap, narrow, wide, pool, handle, bytes, start, marks, work)
+    yexwalu::questions::yexwalu_edit(heap, narrow, wide, pool, handle, bytes, start, marks, work)
 }
 
 #[unsafe(no_mangle)]
@@ -213,7 +213,7 @@ pub extern "C" fn yexwalu_write(
         ≡ heap_call nothing nothing marks.old work.old (lent heap narrow.now wide.old pool.old)
         (λ h. written h i at bytes.now) }
 {
-    heap_door::yexwalu_write(heap, narrow, wide, pool, i, at, bytes, marks, work)
+    yexwalu::questions::yexwalu_write(heap, narrow, wide, pool, i, at, bytes, marks, work)
 }
 
 #[unsafe(no_mangle)]
@@ -231,7 +231,7 @@ pub extern "C" fn yexwalu_reissue(
         ≡ heap_call here nothing marks.old work.old (lent heap narrow.old wide.old pool.now)
         (λ h. reissued h i grown) }
 {
-    heap_door::yexwalu_reissue(heap, narrow, wide, pool, i, grown, marks, work)
+    yexwalu::questions::yexwalu_reissue(heap, narrow, wide, pool, i, grown, marks, work)
 }
 
 #[unsafe(no_mangle)]
@@ -246,5 +246,5 @@ pub extern "C" fn yexwalu_seal(
     ensures { outcome result.answer (lent result.heap narrow.now wide.new pool.now) marks.new work.new
         ≡ heap_call nothing nothing marks.old work.old (lent heap narrow.now wide.old pool.now) sealing }
 {
-    heap_door::yexwalu_seal(heap, narrow, wide, pool, marks, work)
+    yexwalu::questions::yexwalu_seal(heap, narrow, wide, pool, marks, work)
 }

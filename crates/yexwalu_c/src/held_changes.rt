@@ -1,4 +1,4 @@
-// For C: the calls of held_edit.
+// For C: the calls of unchecked::changes.
 ghost use Rattle.std.specs.Prelude.{◌≡◌, true, length};
 ghost use Rattle.word.specs.Result.{ok};
 ghost use Rattle.refusal.specs.Told.{answered, here, nothing};
@@ -6,8 +6,8 @@ ghost use Rattle.heap.specs.State.{bit};
 ghost use Rattle.heap.specs.Lent.{view};
 ghost use Rattle.heap.specs.WellFormed.{well_formed};
 ghost use Rattle.heap.specs.Calls.{gc_due, reclaim_due, has_quarantine, is_plain, live_count, Place, place_at, Kind, kind_at, Stamp, stamp_at, resolve as resolved, edit as edited, write as written, reissue as reissued, free as freed};
-ghost use Rattle.heap_door.specs.Sealing.{sealing};
-ghost use Rattle.held.specs.Held.{in_place, Held};
+ghost use Rattle.yexwalu.specs.Questions.Sealing.{sealing};
+ghost use Rattle.unchecked.specs.Objects.Held.{in_place, Held};
 
 use refusal::Answer;
 
@@ -28,7 +28,7 @@ pub extern "C" fn yexwalu_held_free(
         (in_place tag.new numbers.new log.new lengths.new narrow.new wide.new pool.new) result
         (λ h. freed h handle) }
 {
-    held_edit::yexwalu_held_free(tag, numbers, log, lengths, narrow, wide, pool, handle)
+    unchecked::changes::yexwalu_held_free(tag, numbers, log, lengths, narrow, wide, pool, handle)
 }
 
 #[unsafe(no_mangle)]
@@ -50,7 +50,7 @@ pub extern "C" fn yexwalu_held_edit(
         (in_place tag.new numbers.new log.new lengths.new narrow.new wide.new pool.new) result
         (λ h. edited (length pool.old) h handle bytes.now start) }
 {
-    held_edit::yexwalu_held_edit(
+    unchecked::changes::yexwalu_held_edit(
         tag, numbers, log, lengths, narrow, wide, pool, handle, bytes, start,
     )
 }
@@ -73,7 +73,9 @@ pub extern "C" fn yexwalu_held_reissue(
         (in_place tag.new numbers.new log.new lengths.new narrow.new wide.new pool.now) result
         (λ h. reissued h i grown) }
 {
-    held_edit::yexwalu_held_reissue(tag, numbers, log, lengths, narrow, wide, pool, i, grown)
+    unchecked::changes::yexwalu_held_reissue(
+        tag, numbers, log, lengths, narrow, wide, pool, i, grown,
+    )
 }
 
 #[unsafe(no_mangle)]
@@ -92,7 +94,7 @@ pub extern "C" fn yexwalu_held_seal(
         (in_place tag.new numbers.new log.new lengths.new narrow.now wide.new pool.now) result
         sealing }
 {
-    held_edit::yexwalu_held_seal(tag, numbers, log, lengths, narrow, wide, pool)
+    unchecked::changes::yexwalu_held_seal(tag, numbers, log, lengths, narrow, wide, pool)
 }
 
 #[unsafe(no_mangle)]
@@ -114,7 +116,9 @@ pub extern "C" fn yexwalu_held_write(
         (in_place tag.now numbers.now log.now lengths.now narrow.now wide.new pool.new) result
         (λ h. written h i at bytes.now) }
 {
-    held_edit::yexwalu_held_write(tag, numbers, log, lengths, narrow, wide, pool, i, at, bytes)
+    unchecked::changes::yexwalu_held_write(
+        tag, numbers, log, lengths, narrow, wide, pool, i, at, bytes,
+    )
 }
 
 #[unsafe(no_mangle)]
@@ -132,7 +136,7 @@ pub extern "C" fn yexwalu_held_resolve(
     ensures { result ≡ answered here nothing (resolved
         (view (in_place tag.now numbers.now log.now lengths.now narrow.now wide.now pool.now)) handle) }
 {
-    held_edit::yexwalu_held_resolve(tag, numbers, log, lengths, narrow, wide, pool, handle)
+    unchecked::changes::yexwalu_held_resolve(tag, numbers, log, lengths, narrow, wide, pool, handle)
 }
 
 #[unsafe(no_mangle)]
@@ -150,7 +154,7 @@ pub extern "C" fn yexwalu_held_data(
     ensures { result ≡ answered (λ (p : Place). p.from) (λ (p : Place). p.size) (place_at
         (view (in_place tag.now numbers.now log.now lengths.now narrow.now wide.now pool.now)) i) }
 {
-    held_edit::yexwalu_held_data(tag, numbers, log, lengths, narrow, wide, pool, i)
+    unchecked::changes::yexwalu_held_data(tag, numbers, log, lengths, narrow, wide, pool, i)
 }
 
 #[unsafe(no_mangle)]
@@ -168,7 +172,7 @@ pub extern "C" fn yexwalu_held_kind(
     ensures { result ≡ answered (λ (k : Kind). k.kind) (λ (k : Kind). k.type) (kind_at
         (view (in_place tag.now numbers.now log.now lengths.now narrow.now wide.now pool.now)) i) }
 {
-    held_edit::yexwalu_held_kind(tag, numbers, log, lengths, narrow, wide, pool, i)
+    unchecked::changes::yexwalu_held_kind(tag, numbers, log, lengths, narrow, wide, pool, i)
 }
 
 #[unsafe(no_mangle)]
@@ -186,7 +190,7 @@ pub extern "C" fn yexwalu_held_stamp(
     ensures { result ≡ answered (λ (s : Stamp). s.generation) (λ (s : Stamp). s.writes) (stamp_at
         (view (in_place tag.now numbers.now log.now lengths.now narrow.now wide.now pool.now)) i) }
 {
-    held_edit::yexwalu_held_stamp(tag, numbers, log, lengths, narrow, wide, pool, i)
+    unchecked::changes::yexwalu_held_stamp(tag, numbers, log, lengths, narrow, wide, pool, i)
 }
 
 #[unsafe(no_mangle)]
@@ -203,7 +207,7 @@ pub extern "C" fn yexwalu_held_live(
     ensures { result ≡ answered here nothing (ok (live_count
         (view (in_place tag.now numbers.now log.now lengths.now narrow.now wide.now pool.now)).slots)) }
 {
-    held_edit::yexwalu_held_live(tag, numbers, log, lengths, narrow, wide, pool)
+    unchecked::changes::yexwalu_held_live(tag, numbers, log, lengths, narrow, wide, pool)
 }
 
 #[unsafe(no_mangle)]
@@ -220,7 +224,7 @@ pub extern "C" fn yexwalu_held_slots(
     ensures { result ≡ answered here nothing (ok (length
         (view (in_place tag.now numbers.now log.now lengths.now narrow.now wide.now pool.now)).slots)) }
 {
-    held_edit::yexwalu_held_slots(tag, numbers, log, lengths, narrow, wide, pool)
+    unchecked::changes::yexwalu_held_slots(tag, numbers, log, lengths, narrow, wide, pool)
 }
 
 #[unsafe(no_mangle)]
@@ -238,7 +242,9 @@ pub extern "C" fn yexwalu_held_gc_due(
     ensures { result ≡ answered bit nothing (ok (gc_due
         (view (in_place tag.now numbers.now log.now lengths.now narrow.now wide.now pool.now)) threshold)) }
 {
-    held_edit::yexwalu_held_gc_due(tag, numbers, log, lengths, narrow, wide, pool, threshold)
+    unchecked::changes::yexwalu_held_gc_due(
+        tag, numbers, log, lengths, narrow, wide, pool, threshold,
+    )
 }
 
 #[unsafe(no_mangle)]
@@ -255,7 +261,7 @@ pub extern "C" fn yexwalu_held_reclaim_due(
     ensures { result ≡ answered bit nothing (ok (reclaim_due
         (view (in_place tag.now numbers.now log.now lengths.now narrow.now wide.now pool.now)))) }
 {
-    held_edit::yexwalu_held_reclaim_due(tag, numbers, log, lengths, narrow, wide, pool)
+    unchecked::changes::yexwalu_held_reclaim_due(tag, numbers, log, lengths, narrow, wide, pool)
 }
 
 #[unsafe(no_mangle)]
@@ -272,7 +278,7 @@ pub extern "C" fn yexwalu_held_has_quarantine(
     ensures { result ≡ answered bit nothing (ok (has_quarantine
         (view (in_place tag.now numbers.now log.now lengths.now narrow.now wide.now pool.now)))) }
 {
-    held_edit::yexwalu_held_has_quarantine(tag, numbers, log, lengths, narrow, wide, pool)
+    unchecked::changes::yexwalu_held_has_quarantine(tag, numbers, log, lengths, narrow, wide, pool)
 }
 
 #[unsafe(no_mangle)]
@@ -290,5 +296,7 @@ pub extern "C" fn yexwalu_held_is_plain(
     ensures { result ≡ answered bit nothing (ok (is_plain
         (view (in_place tag.now numbers.now log.now lengths.now narrow.now wide.now pool.now)) wanted)) }
 {
-    held_edit::yexwalu_held_is_plain(tag, numbers, log, lengths, narrow, wide, pool, wanted)
+    unchecked::changes::yexwalu_held_is_plain(
+        tag, numbers, log, lengths, narrow, wide, pool, wanted,
+    )
 }

@@ -1,11 +1,11 @@
-// For C: the calls of held_collect.
+// For C: the calls of unchecked::collections.
 ghost use Rattle.std.specs.Prelude.{◌≡◌, true};
 ghost use Rattle.heap.specs.WellFormed.{well_formed};
-ghost use Rattle.door.specs.HeapCalls.{outcome};
-ghost use Rattle.collect_door.specs.Calls.{collect_call};
-ghost use Rattle.collect_door.specs.Demand.{RightlyCollected};
-ghost use Rattle.held.specs.Held.{in_place};
-ghost use Rattle.ty.specs.Check.{table_good};
+ghost use Rattle.validate.specs.Door.HeapCalls.{outcome};
+ghost use Rattle.yexwalu.specs.Collections.Calls.{collect_call};
+ghost use Rattle.yexwalu.specs.Collections.Demand.{RightlyCollected};
+ghost use Rattle.unchecked.specs.Objects.Held.{in_place};
+ghost use Rattle.type_table.specs.Rows.Check.{table_good};
 
 use refusal::Answer;
 
@@ -40,7 +40,7 @@ pub extern "C" fn yexwalu_held_collect(
         (outcome result (in_place tag.new numbers.new log.new lengths.new narrow.new wide.new pool.new) marks.new work.new) }
     ensures formed { well_formed (in_place tag.new numbers.new log.new lengths.new narrow.new wide.new pool.new) ≡ true }
 {
-    held_collect::yexwalu_held_collect(
+    unchecked::collections::yexwalu_held_collect(
         types, fields, consts, bytes, tag, numbers, log, lengths, narrow, wide, pool, roots, pins,
         marks, work,
     )

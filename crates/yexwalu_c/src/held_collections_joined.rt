@@ -1,11 +1,11 @@
-// For C: the calls of held_collect, joined.
+// For C: the calls of unchecked::collections::joined.
 ghost use Rattle.std.specs.Prelude.{◌≡◌, true, [], ◌∷◌};
 ghost use Rattle.heap.specs.WellFormed.{well_formed};
-ghost use Rattle.door.specs.HeapCalls.{outcome_of};
-ghost use Rattle.collect_door.specs.Calls.{joined_call};
-ghost use Rattle.collect_door.specs.Demand.{Demand};
-ghost use Rattle.held.specs.Held.{in_place};
-ghost use Rattle.ty.specs.Check.{table_good};
+ghost use Rattle.validate.specs.Door.HeapCalls.{outcome_of};
+ghost use Rattle.yexwalu.specs.Collections.Calls.{joined_call};
+ghost use Rattle.yexwalu.specs.Collections.Demand.{Demand};
+ghost use Rattle.unchecked.specs.Objects.Held.{in_place};
+ghost use Rattle.type_table.specs.Rows.Check.{table_good};
 
 use refusal::Answer;
 
@@ -73,7 +73,7 @@ pub extern "C" fn yexwalu_held_collect_joined(
         (marks.new ∷ work.new ∷ rows.new ∷ [])) }
     ensures formed { well_formed (in_place tag.new numbers.new log.new lengths.new narrow.new wide.new pool.new) ≡ true }
 {
-    held_collect::joined::yexwalu_held_collect_joined(
+    unchecked::collections::joined::yexwalu_held_collect_joined(
         types, fields, consts, bytes, tag, numbers, log, lengths, narrow, wide, pool, kinds, ends,
         refs, blocks, classes, pc, values, map, memory, pins, addresses, marks, work, rows,
     )

@@ -1,16 +1,16 @@
-// For C: the calls of held_figures.
+// For C: the calls of unchecked::figures.
 ghost use Rattle.std.specs.Prelude.{◌≡◌, true, length};
 ghost use Rattle.word.specs.Result.{ok};
 ghost use Rattle.refusal.specs.Told.{answered, here, nothing};
 ghost use Rattle.text.specs.Put.{put_text};
 ghost use Rattle.heap.specs.Lent.{view};
 ghost use Rattle.heap.specs.WellFormed.{well_formed};
-ghost use Rattle.held.specs.Held.{in_place};
-ghost use Rattle.figures.specs.Figures.{figures_of, merge, figures_line};
-ghost use Rattle.held_figures.specs.Totals.{in_words};
+ghost use Rattle.unchecked.specs.Objects.Held.{in_place};
+ghost use Rattle.shelves.specs.Counted.Figures.{figures_of, merge, figures_line};
+ghost use Rattle.unchecked.specs.Figures.Totals.{in_words};
 
-use figures::Figures;
 use refusal::Answer;
+use shelves::counted::Figures;
 
 #[unsafe(no_mangle)]
 pub extern "C" fn yexwalu_held_figures(
@@ -26,14 +26,14 @@ pub extern "C" fn yexwalu_held_figures(
     ensures { result ≡ figures_of
         (view (in_place tag.now numbers.now log.now lengths.now narrow.now wide.now pool.now)).slots }
 {
-    held_figures::yexwalu_held_figures(tag, numbers, log, lengths, narrow, wide, pool)
+    unchecked::figures::yexwalu_held_figures(tag, numbers, log, lengths, narrow, wide, pool)
 }
 
 #[unsafe(no_mangle)]
 pub extern "C" fn yexwalu_held_figures_and(total: Figures, page: Figures) -> Figures
     ensures { result ≡ in_words (merge total page) }
 {
-    held_figures::yexwalu_held_figures_and(total, page)
+    unchecked::figures::yexwalu_held_figures_and(total, page)
 }
 
 #[unsafe(no_mangle)]
@@ -46,5 +46,5 @@ pub extern "C" fn yexwalu_held_figures_line(
     ensures answer { result ≡ answered here nothing (ok (length (figures_line page answer shown))) }
     ensures out_after { out.new ≡ put_text out.old 0 (figures_line page answer shown) }
 {
-    held_figures::yexwalu_held_figures_line(page, answer, shown, out)
+    unchecked::figures::yexwalu_held_figures_line(page, answer, shown, out)
 }

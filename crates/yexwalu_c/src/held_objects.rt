@@ -1,12 +1,12 @@
-// For C: the calls of held.
+// For C: the calls of unchecked::objects.
 ghost use Rattle.std.specs.Prelude.{◌≡◌, true, ◌/◌, length};
 ghost use Rattle.refusal.specs.Told.{here, nothing};
 ghost use Rattle.heap.specs.Lent.{view};
 ghost use Rattle.heap.specs.WellFormed.{well_formed};
 ghost use Rattle.heap.specs.Calls.{take_into};
-ghost use Rattle.heap_calls.specs.Objects.{handed_out, object_start, object_size};
-ghost use Rattle.object_door.specs.ObjectCalls.{allocating, recycling};
-ghost use Rattle.held.specs.Held.{in_place, Held};
+ghost use Rattle.heap_ops.specs.HeapCalls.Objects.{handed_out, object_start, object_size};
+ghost use Rattle.heap_ops.specs.Placing.Calls.{allocating, recycling};
+ghost use Rattle.unchecked.specs.Objects.Held.{in_place, Held};
 
 use refusal::Answer;
 
@@ -30,7 +30,7 @@ pub extern "C" fn yexwalu_held_alloc_from(
         (in_place tag.new numbers.new log.new lengths.new narrow.new wide.new pool.new) result
         (allocating (length narrow.old / 6) (length pool.old) kind ty start bytes.now) }
 {
-    held::yexwalu_held_alloc_from(
+    unchecked::objects::yexwalu_held_alloc_from(
         tag, numbers, log, lengths, narrow, wide, pool, kind, ty, start, bytes,
     )
 }
@@ -55,7 +55,9 @@ pub extern "C" fn yexwalu_held_take(
     ensures written { out.new ≡ handed_out out.old (take_into (length out.old)
         (view (in_place tag.old numbers.old log.old lengths.old narrow.old wide.old pool.old)) handle).answer }
 {
-    held::yexwalu_held_take(tag, numbers, log, lengths, narrow, wide, pool, handle, out)
+    unchecked::objects::yexwalu_held_take(
+        tag, numbers, log, lengths, narrow, wide, pool, handle, out,
+    )
 }
 
 #[unsafe(no_mangle)]
@@ -75,5 +77,5 @@ pub extern "C" fn yexwalu_held_recycle(
         (in_place tag.new numbers.new log.new lengths.new narrow.new wide.now pool.now) result
         (recycling pins.now) }
 {
-    held::yexwalu_held_recycle(tag, numbers, log, lengths, narrow, wide, pool, pins)
+    unchecked::objects::yexwalu_held_recycle(tag, numbers, log, lengths, narrow, wide, pool, pins)
 }

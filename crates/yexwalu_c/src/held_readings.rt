@@ -1,17 +1,17 @@
-// For C: the calls of held_reads.
+// For C: the calls of unchecked::reads.
 ghost use Rattle.std.specs.Prelude.{◌≡◌, true, length};
 ghost use Rattle.word.specs.Result.{ok};
 ghost use Rattle.refusal.specs.Told.{answered, here, nothing};
 ghost use Rattle.heap.specs.Lent.{view};
 ghost use Rattle.heap.specs.WellFormed.{well_formed};
-ghost use Rattle.pages.specs.Form.{written};
-ghost use Rattle.pages.specs.Page.{page_text};
-ghost use Rattle.pages.specs.Answer.{text_answer, text_out};
-ghost use Rattle.held.specs.Held.{in_place};
-ghost use Rattle.ty.specs.View.{table_of};
-ghost use Rattle.traced.specs.Listing.{written_to};
-ghost use Rattle.slot_door.specs.SlotHandles.{slot_handles};
-ghost use Rattle.slot_door.specs.Traceable.{fit_number, misfit_number, fitting};
+ghost use Rattle.page_format.specs.Pages.Form.{written};
+ghost use Rattle.page_format.specs.Pages.Page.{page_text};
+ghost use Rattle.page_format.specs.Pages.Answer.{text_answer, text_out};
+ghost use Rattle.unchecked.specs.Objects.Held.{in_place};
+ghost use Rattle.type_table.specs.Rows.View.{table_of};
+ghost use Rattle.tracing.specs.Traced.Listing.{written_to};
+ghost use Rattle.yexwalu.specs.Slots.SlotHandles.{slot_handles};
+ghost use Rattle.yexwalu.specs.Slots.Traceable.{fit_number, misfit_number, fitting};
 
 use refusal::Answer;
 
@@ -39,7 +39,7 @@ pub extern "C" fn yexwalu_held_slot_handles(
         (table_of types.now fields.now consts.now bytes.now) slot (length out.old)
         (view (in_place tag.now numbers.now log.now lengths.now narrow.now wide.now pool.now))) }
 {
-    held_reads::yexwalu_held_slot_handles(
+    unchecked::reads::yexwalu_held_slot_handles(
         types, fields, consts, bytes, tag, numbers, log, lengths, narrow, wide, pool, slot, out,
     )
 }
@@ -63,7 +63,7 @@ pub extern "C" fn yexwalu_held_traceable(
         (table_of types.now fields.now consts.now bytes.now)
         (view (in_place tag.now numbers.now log.now lengths.now narrow.now wide.now pool.now))) }
 {
-    held_reads::yexwalu_held_traceable(
+    unchecked::reads::yexwalu_held_traceable(
         types, fields, consts, bytes, tag, numbers, log, lengths, narrow, wide, pool,
     )
 }
@@ -83,7 +83,9 @@ pub extern "C" fn yexwalu_held_page_length(
     ensures { result ≡ answered here nothing (ok (length (page_text (written planar)
         (view (in_place tag.now numbers.now log.now lengths.now narrow.now wide.now pool.now))))) }
 {
-    held_reads::yexwalu_held_page_length(tag, numbers, log, lengths, narrow, wide, pool, planar)
+    unchecked::reads::yexwalu_held_page_length(
+        tag, numbers, log, lengths, narrow, wide, pool, planar,
+    )
 }
 
 #[unsafe(no_mangle)]
@@ -104,5 +106,7 @@ pub extern "C" fn yexwalu_held_write_page(
     ensures out_after { out.new ≡ text_out (page_text (written planar)
         (view (in_place tag.now numbers.now log.now lengths.now narrow.now wide.now pool.now))) out.old }
 {
-    held_reads::yexwalu_held_write_page(tag, numbers, log, lengths, narrow, wide, pool, planar, out)
+    unchecked::reads::yexwalu_held_write_page(
+        tag, numbers, log, lengths, narrow, wide, pool, planar, out,
+    )
 }

@@ -1,10 +1,10 @@
-// For C: the calls of held_wanted.
+// For C: the calls of unchecked::wanted_roots.
 ghost use Rattle.std.specs.Prelude.{◌≡◌, true};
-ghost use Rattle.ty.specs.Check.{table_good};
+ghost use Rattle.type_table.specs.Rows.Check.{table_good};
 ghost use Rattle.heap.specs.WellFormed.{well_formed};
-ghost use Rattle.door.specs.HeapCalls.{asked};
-ghost use Rattle.wanted_door.specs.RootsFor.{roots_call, roots_out, RightRoots};
-ghost use Rattle.held.specs.Held.{in_place};
+ghost use Rattle.validate.specs.Door.HeapCalls.{asked};
+ghost use Rattle.yexwalu.specs.RootLists.RootsFor.{roots_call, roots_out, RightRoots};
+ghost use Rattle.unchecked.specs.Objects.Held.{in_place};
 
 use refusal::Answer;
 
@@ -41,7 +41,7 @@ pub extern "C" fn yexwalu_held_roots_for(
         (record { types = types.now; fields = fields.now; consts = consts.now; bytes = bytes.now; pins = pins.now; wanted = wanted.now })
         marks.old work.old (in_place tag.now numbers.now log.now lengths.now narrow.now wide.now pool.now) out.old result out.new }
 {
-    held_wanted::yexwalu_held_roots_for(
+    unchecked::wanted_roots::yexwalu_held_roots_for(
         types, fields, consts, bytes, tag, numbers, log, lengths, narrow, wide, pool, pins, wanted,
         out, marks, work,
     )

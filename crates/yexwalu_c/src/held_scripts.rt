@@ -1,11 +1,11 @@
-// For C: the calls of held_run.
+// For C: the calls of unchecked::scripts.
 ghost use Rattle.std.specs.Prelude.{◌≡◌, true, ◌/◌, length};
 ghost use Rattle.refusal.specs.Told.{nothing};
 ghost use Rattle.heap.specs.WellFormed.{well_formed};
-ghost use Rattle.door.specs.HeapCalls.{zeros};
+ghost use Rattle.validate.specs.Door.HeapCalls.{zeros};
 ghost use Rattle.script.specs.Script.{run_script};
-ghost use Rattle.run_door.specs.Run.{Roomy};
-ghost use Rattle.held.specs.Held.{in_place, Held};
+ghost use Rattle.script.specs.Run.Room.{Roomy};
+ghost use Rattle.unchecked.specs.Objects.Held.{in_place, Held};
 
 use refusal::Answer;
 
@@ -29,5 +29,7 @@ pub extern "C" fn yexwalu_held_run(
         (run_script (length narrow.old / 6) (length pool.old) script.now) }
     ensures room_after { room.new ≡ zeros room.old }
 {
-    held_run::yexwalu_held_run(tag, numbers, log, lengths, narrow, wide, pool, script, room)
+    unchecked::scripts::yexwalu_held_run(
+        tag, numbers, log, lengths, narrow, wide, pool, script, room,
+    )
 }

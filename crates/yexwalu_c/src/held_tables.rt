@@ -1,18 +1,18 @@
-// For C: the calls of held_types.
+// For C: the calls of unchecked::types.
 ghost use Rattle.std.specs.Prelude.{◌≡◌, length, true, if◌then◌else◌};
 ghost use Rattle.word.specs.Result.{ok};
 ghost use Rattle.refusal.specs.Told.{answered, here, nothing};
-ghost use Rattle.ty.specs.View.{types_of, table_of};
-ghost use Rattle.ty.specs.Walks.{has_handles, desc_bytes};
+ghost use Rattle.type_table.specs.Rows.View.{types_of, table_of};
+ghost use Rattle.type_table.specs.Rows.Walks.{has_handles, desc_bytes};
 ghost use Rattle.layout.specs.Offsets.{offsets_of, layout_call, written_by};
-ghost use Rattle.trace.specs.Places.{object_handles, value_handles};
-ghost use Rattle.traced.specs.Listing.{listing, written_to};
-ghost use Rattle.held_types.specs.Laid.{laid, sized};
-ghost use Rattle.ty.specs.Check.{table_good};
-ghost use Rattle.frame.specs.Frame.{frame_handles, frame_addresses};
-ghost use Rattle.frame.specs.Listing.{roots_listing, handles_to, addresses_to};
+ghost use Rattle.tracing.specs.Trace.Places.{object_handles, value_handles};
+ghost use Rattle.tracing.specs.Traced.Listing.{listing, written_to};
+ghost use Rattle.layout.specs.Numbers.Laid.{laid, sized};
+ghost use Rattle.type_table.specs.Rows.Check.{table_good};
+ghost use Rattle.tracing.specs.Frame.Frame.{frame_handles, frame_addresses};
+ghost use Rattle.tracing.specs.Frame.Listing.{roots_listing, handles_to, addresses_to};
 
-use held_types::Laying;
+use layout::numbers::Laying;
 use refusal::Answer;
 
 #[unsafe(no_mangle)]
@@ -31,7 +31,7 @@ pub extern "C" fn yexwalu_held_layout(
         (layout_call (table_of types.now fields.now consts.now bytes.now) t desc.now (length out.old))
         (offsets_of (table_of types.now fields.now consts.now bytes.now) t desc.now) out.old }
 {
-    held_types::yexwalu_held_layout(types, fields, consts, bytes, t, desc, out)
+    unchecked::types::yexwalu_held_layout(types, fields, consts, bytes, t, desc, out)
 }
 
 #[unsafe(no_mangle)]
@@ -45,14 +45,14 @@ pub extern "C" fn yexwalu_held_desc_size(
     requires { table_good types.now fields.now consts.now bytes.now ≡ true }
     ensures { result ≡ answered here nothing (sized (desc_bytes (types_of types.now fields.now) t)) }
 {
-    held_types::yexwalu_held_desc_size(types, fields, consts, bytes, t)
+    unchecked::types::yexwalu_held_desc_size(types, fields, consts, bytes, t)
 }
 
 #[unsafe(no_mangle)]
 pub extern "C" fn yexwalu_held_has_handles(types: &[u64], fields: &[u32], t: u64) -> Answer
     ensures { result ≡ answered here nothing (ok (if has_handles (types_of types.now fields.now) t then 1 else 0)) }
 {
-    held_types::yexwalu_held_has_handles(types, fields, t)
+    unchecked::types::yexwalu_held_has_handles(types, fields, t)
 }
 
 #[unsafe(no_mangle)]
@@ -70,7 +70,7 @@ pub extern "C" fn yexwalu_held_object_handles(
     ensures written { out.new ≡ written_to out.old
         (listing (object_handles (table_of types.now fields.now consts.now bytes.now) t «data».now) (length out.old)) }
 {
-    held_types::yexwalu_held_object_handles(types, fields, consts, bytes, t, data, out)
+    unchecked::types::yexwalu_held_object_handles(types, fields, consts, bytes, t, data, out)
 }
 
 #[unsafe(no_mangle)]
@@ -88,7 +88,7 @@ pub extern "C" fn yexwalu_held_value_handles(
     ensures written { out.new ≡ written_to out.old
         (listing (value_handles (table_of types.now fields.now consts.now bytes.now) t «data».now) (length out.old)) }
 {
-    held_types::yexwalu_held_value_handles(types, fields, consts, bytes, t, data, out)
+    unchecked::types::yexwalu_held_value_handles(types, fields, consts, bytes, t, data, out)
 }
 
 #[unsafe(no_mangle)]
@@ -115,7 +115,7 @@ pub extern "C" fn yexwalu_held_slot_roots(
         (frame_addresses (table_of types.now fields.now consts.now bytes.now) map.now memory.now)
         (length handles.old) (length addresses.old)) }
 {
-    held_types::yexwalu_held_slot_roots(
+    unchecked::types::yexwalu_held_slot_roots(
         types, fields, consts, bytes, map, memory, handles, addresses,
     )
 }

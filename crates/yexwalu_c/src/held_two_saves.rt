@@ -1,11 +1,11 @@
-// For C: the calls of held_saves.
+// For C: the calls of unchecked::saves.
 ghost use Rattle.std.specs.Prelude.{◌≡◌, true, [], ◌∷◌};
-ghost use Rattle.ty.specs.Check.{table_good};
+ghost use Rattle.type_table.specs.Rows.Check.{table_good};
 ghost use Rattle.heap.specs.WellFormed.{well_formed};
-ghost use Rattle.door.specs.HeapCalls.{asked_of};
-ghost use Rattle.saves.specs.Saves.{save_of, words_of, same_call, order_call};
-ghost use Rattle.saves.specs.Right.{RightSame, RightOrder};
-ghost use Rattle.held.specs.Held.{in_place};
+ghost use Rattle.validate.specs.Door.HeapCalls.{asked_of};
+ghost use Rattle.compare.specs.Saves.Saves.{save_of, words_of, same_call, order_call};
+ghost use Rattle.compare.specs.Saves.Right.{RightSame, RightOrder};
+ghost use Rattle.unchecked.specs.Objects.Held.{in_place};
 
 use refusal::Answer;
 
@@ -49,7 +49,7 @@ pub extern "C" fn yexwalu_held_same(
         (save_of (in_place tag.now numbers.now log.now lengths.now narrow.now wide.now pool.now) roots.now marks.old work.old)
         (save_of (in_place other_tag.now other_numbers.now other_log.now other_lengths.now other_narrow.now other_wide.now other_pool.now) other_roots.now other_marks.old other_work.old) result }
 {
-    held_saves::yexwalu_held_same(
+    unchecked::saves::yexwalu_held_same(
         types,
         fields,
         consts,
@@ -117,7 +117,7 @@ pub extern "C" fn yexwalu_held_order(
         (save_of (in_place tag.now numbers.now log.now lengths.now narrow.now wide.now pool.now) roots.now marks.old work.old)
         (save_of (in_place other_tag.now other_numbers.now other_log.now other_lengths.now other_narrow.now other_wide.now other_pool.now) other_roots.now other_marks.old other_work.old) result }
 {
-    held_saves::yexwalu_held_order(
+    unchecked::saves::yexwalu_held_order(
         types,
         fields,
         consts,

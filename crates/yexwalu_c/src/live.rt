@@ -1,6 +1,6 @@
-// For C: the calls of yexwalu, live.
-ghost use Rattle.roots.specs.Calls.{LiveAtCall};
-ghost use Rattle.root_map.specs.Calls.{LiveRefsCall};
+// For C: the calls of yexwalu::live.
+ghost use Rattle.liveness.specs.Roots.Calls.{LiveAtCall};
+ghost use Rattle.liveness.specs.RootMap.Calls.{LiveRefsCall};
 ghost use Rattle.yexwalu.specs.Live.{asked};
 ghost use Rattle.yexwalu.specs.RightLive.{RightLiveAt, RightLiveRefs};
 

@@ -1,14 +1,15 @@
-// For C: the calls of object_door.
+// For C: the calls of yexwalu::objects.
 ghost use Rattle.std.specs.Prelude.{◌≡◌, ◌/◌, length};
 ghost use Rattle.refusal.specs.Told.{here, nothing};
 ghost use Rattle.heap.specs.Lent.{lent};
 ghost use Rattle.heap.specs.Calls.{free as freed};
-ghost use Rattle.door.specs.HeapCalls.{outcome, heap_call};
-ghost use Rattle.object_door.specs.ObjectCalls.{allocating, recycling, handed, take_call};
-ghost use Rattle.object_door.specs.Making.{new_call};
+ghost use Rattle.validate.specs.Door.HeapCalls.{outcome, heap_call};
+ghost use Rattle.yexwalu.specs.Objects.ObjectCalls.{handed, take_call};
+ghost use Rattle.heap_ops.specs.Placing.Calls.{allocating, recycling};
+ghost use Rattle.yexwalu.specs.Objects.Making.{new_call};
 
-use door::Done;
 use heap::Heap;
+use validate::door::Done;
 
 #[unsafe(no_mangle)]
 pub extern "C" fn yexwalu_new(
@@ -23,7 +24,7 @@ pub extern "C" fn yexwalu_new(
         (lent result.heap narrow.new wide.new pool.new) marks.new work.new
         ≡ new_call marks.old work.old narrow.old wide.old pool.old tag }
 {
-    object_door::yexwalu_new(tag, narrow, wide, pool, marks, work)
+    yexwalu::objects::yexwalu_new(tag, narrow, wide, pool, marks, work)
 }
 
 #[unsafe(no_mangle)]
@@ -44,7 +45,7 @@ pub extern "C" fn yexwalu_alloc_from(
         ≡ heap_call here nothing marks.old work.old (lent heap narrow.old wide.old pool.old)
         (allocating (length narrow.old / 6) (length pool.old) kind ty start bytes.now) }
 {
-    object_door::yexwalu_alloc_from(
+    yexwalu::objects::yexwalu_alloc_from(
         heap, narrow, wide, pool, kind, ty, start, bytes, marks, work,
     )
 }
@@ -66,7 +67,7 @@ pub extern "C" fn yexwalu_alloc(
         ≡ heap_call here nothing marks.old work.old (lent heap narrow.old wide.old pool.old)
         (allocating (length narrow.old / 6) (length pool.old) kind ty 0 bytes.now) }
 {
-    object_door::yexwalu_alloc(heap, narrow, wide, pool, kind, ty, bytes, marks, work)
+    yexwalu::objects::yexwalu_alloc(heap, narrow, wide, pool, kind, ty, bytes, marks, work)
 }
 
 #[unsafe(no_mangle)]
@@ -86,7 +87,7 @@ pub extern "C" fn yexwalu_take(
         (lent heap narrow.old wide.old pool.old)
         handle out.old }
 {
-    object_door::yexwalu_take(heap, narrow, wide, pool, handle, out, marks, work)
+    yexwalu::objects::yexwalu_take(heap, narrow, wide, pool, handle, out, marks, work)
 }
 
 #[unsafe(no_mangle)]
@@ -104,7 +105,7 @@ pub extern "C" fn yexwalu_free(
         ≡ heap_call nothing nothing marks.old work.old (lent heap narrow.old wide.old pool.old)
         (λ h. freed h handle) }
 {
-    object_door::yexwalu_free(heap, narrow, wide, pool, handle, marks, work)
+    yexwalu::objects::yexwalu_free(heap, narrow, wide, pool, handle, marks, work)
 }
 
 #[unsafe(no_mangle)]
@@ -122,5 +123,5 @@ pub extern "C" fn yexwalu_recycle(
         ≡ heap_call nothing nothing marks.old work.old (lent heap narrow.old wide.now pool.now)
         (recycling pins.now) }
 {
-    object_door::yexwalu_recycle(heap, narrow, wide, pool, pins, marks, work)
+    yexwalu::objects::yexwalu_recycle(heap, narrow, wide, pool, pins, marks, work)
 }

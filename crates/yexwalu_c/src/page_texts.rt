@@ -1,12 +1,12 @@
-// For C: the calls of page_door.
+// For C: the calls of yexwalu::pages.
 ghost use Rattle.std.specs.Prelude.{◌≡◌};
 ghost use Rattle.heap.specs.Lent.{lent};
-ghost use Rattle.door.specs.HeapCalls.{asked, outcome};
-ghost use Rattle.page_door.specs.Page.{measuring, writing, page_out, reading};
+ghost use Rattle.validate.specs.Door.HeapCalls.{asked, outcome};
+ghost use Rattle.yexwalu.specs.Pages.Page.{measuring, writing, page_out, reading};
 
-use door::Done;
 use heap::Heap;
 use refusal::Answer;
+use validate::door::Done;
 
 #[unsafe(no_mangle)]
 pub extern "C" fn yexwalu_page_length(
@@ -21,7 +21,7 @@ pub extern "C" fn yexwalu_page_length(
     ensures { asked result marks.new work.new
         ≡ measuring marks.old work.old (lent heap narrow.now wide.now pool.now) planar }
 {
-    page_door::yexwalu_page_length(heap, narrow, wide, pool, planar, marks, work)
+    yexwalu::pages::yexwalu_page_length(heap, narrow, wide, pool, planar, marks, work)
 }
 
 #[unsafe(no_mangle)]
@@ -40,7 +40,7 @@ pub extern "C" fn yexwalu_write_page(
     ensures out_after { out.new
         ≡ page_out marks.old work.old (lent heap narrow.now wide.now pool.now) planar out.old }
 {
-    page_door::yexwalu_write_page(heap, narrow, wide, pool, planar, out, marks, work)
+    yexwalu::pages::yexwalu_write_page(heap, narrow, wide, pool, planar, out, marks, work)
 }
 
 #[unsafe(no_mangle)]
@@ -56,5 +56,5 @@ pub extern "C" fn yexwalu_read_page(
     ensures { outcome result.answer (lent result.heap narrow.new wide.new pool.new) marks.new work.new
         ≡ reading marks.old work.old (lent heap narrow.old wide.old pool.old) text.now }
 {
-    page_door::yexwalu_read_page(heap, narrow, wide, pool, text, marks, work)
+    yexwalu::pages::yexwalu_read_page(heap, narrow, wide, pool, text, marks, work)
 }

@@ -1,12 +1,12 @@
-// For C: the calls of rehearse_door.
+// For C: the calls of yexwalu::rehearsals.
 ghost use Rattle.std.specs.Prelude.{◌≡◌, [], ◌∷◌, length};
 ghost use Rattle.heap.specs.Lent.{lent};
-ghost use Rattle.door.specs.HeapCalls.{outcome_of};
-ghost use Rattle.object_door.specs.ObjectCalls.{handed};
-ghost use Rattle.rehearse_door.specs.Rehearse.{rehearse_call, PlainLines};
+ghost use Rattle.validate.specs.Door.HeapCalls.{outcome_of};
+ghost use Rattle.yexwalu.specs.Objects.ObjectCalls.{handed};
+ghost use Rattle.yexwalu.specs.Rehearsals.Rehearse.{rehearse_call, PlainLines};
 
-use door::Done;
 use heap::Heap;
+use validate::door::Done;
 
 #[unsafe(no_mangle)]
 pub extern "C" fn yexwalu_rehearse(
@@ -36,7 +36,7 @@ pub extern "C" fn yexwalu_rehearse(
         (record { types = types.now; fields = fields.now; consts = consts.now; bytes = bytes.now; text = text.now; thresholds = thresholds.now })
         (length narrow.old) (length pool.old) result.answer out.old out.new }
 {
-    rehearse_door::yexwalu_rehearse(
+    yexwalu::rehearsals::yexwalu_rehearse(
         types, fields, consts, bytes, heap, narrow, wide, pool, text, thresholds, out, words,
         marks, work,
     )

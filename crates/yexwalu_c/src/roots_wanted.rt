@@ -1,8 +1,8 @@
-// For C: the calls of wanted_door.
+// For C: the calls of yexwalu::root_lists.
 ghost use Rattle.std.specs.Prelude.{◌≡◌};
 ghost use Rattle.heap.specs.Lent.{lent};
-ghost use Rattle.door.specs.HeapCalls.{asked};
-ghost use Rattle.wanted_door.specs.RootsFor.{roots_call, roots_out, RightRoots};
+ghost use Rattle.validate.specs.Door.HeapCalls.{asked};
+ghost use Rattle.yexwalu.specs.RootLists.RootsFor.{roots_call, roots_out, RightRoots};
 
 use heap::Heap;
 use refusal::Answer;
@@ -35,7 +35,7 @@ pub extern "C" fn yexwalu_roots_for(
         (record { types = types.now; fields = fields.now; consts = consts.now; bytes = bytes.now; pins = pins.now; wanted = wanted.now })
         marks.old work.old (lent heap narrow.now wide.now pool.now) out.old result out.new }
 {
-    wanted_door::yexwalu_roots_for(
+    yexwalu::root_lists::yexwalu_roots_for(
         types, fields, consts, bytes, heap, narrow, wide, pool, pins, wanted, out, marks, work,
     )
 }

@@ -1,11 +1,11 @@
-// For C: the calls of run_door.
+// For C: the calls of yexwalu::scripts.
 ghost use Rattle.std.specs.Prelude.{[], ◌∷◌, ◌≡◌};
 ghost use Rattle.heap.specs.Lent.{lent};
-ghost use Rattle.door.specs.HeapCalls.{outcome_of};
-ghost use Rattle.run_door.specs.Run.{run_call};
+ghost use Rattle.validate.specs.Door.HeapCalls.{outcome_of};
+ghost use Rattle.yexwalu.specs.Scripts.Run.{run_call};
 
-use door::Done;
 use heap::Heap;
+use validate::door::Done;
 
 #[unsafe(no_mangle)]
 pub extern "C" fn yexwalu_run(
@@ -24,5 +24,5 @@ pub extern "C" fn yexwalu_run(
         ≡ run_call room.old marks.old work.old
         (lent heap narrow.old wide.old pool.old) script.now }
 {
-    run_door::yexwalu_run(heap, narrow, wide, pool, script, room, marks, work)
+    yexwalu::scripts::yexwalu_run(heap, narrow, wide, pool, script, room, marks, work)
 }

@@ -1,9 +1,9 @@
-// For C: the calls of slot_door.
+// For C: the calls of yexwalu::slots.
 ghost use Rattle.std.specs.Prelude.{◌≡◌};
 ghost use Rattle.heap.specs.Lent.{lent};
-ghost use Rattle.door.specs.HeapCalls.{asked};
-ghost use Rattle.slot_door.specs.SlotHandles.{slot_call, slot_out};
-ghost use Rattle.slot_door.specs.Traceable.{trace_call};
+ghost use Rattle.validate.specs.Door.HeapCalls.{asked};
+ghost use Rattle.yexwalu.specs.Slots.SlotHandles.{slot_call, slot_out};
+ghost use Rattle.yexwalu.specs.Slots.Traceable.{trace_call};
 
 use heap::Heap;
 use refusal::Answer;
@@ -30,7 +30,7 @@ pub extern "C" fn yexwalu_slot_handles(
         ≡ slot_out types.now fields.now consts.now bytes.now marks.old work.old
         (lent heap narrow.now wide.now pool.now) slot out.old }
 {
-    slot_door::yexwalu_slot_handles(
+    yexwalu::slots::yexwalu_slot_handles(
         types, fields, consts, bytes, heap, narrow, wide, pool, slot, out, marks, work,
     )
 }
@@ -52,7 +52,7 @@ pub extern "C" fn yexwalu_traceable(
         ≡ trace_call types.now fields.now consts.now bytes.now marks.old work.old
         (lent heap narrow.now wide.now pool.now) }
 {
-    slot_door::yexwalu_traceable(
+    yexwalu::slots::yexwalu_traceable(
         types, fields, consts, bytes, heap, narrow, wide, pool, marks, work,
     )
 }

@@ -1,11 +1,11 @@
-// For C: the calls of table_door.
+// For C: the calls of yexwalu::table_texts.
 ghost use Rattle.std.specs.Prelude.{◌≡◌};
 ghost use Rattle.refusal.specs.Told.{answered, here, nothing};
-ghost use Rattle.table_writer.specs.Writing.{writing, leaving, lent_table};
-ghost use Rattle.table_reader.specs.Reading.{lists, outcome, reading};
+ghost use Rattle.tables.specs.Writer.Writing.{writing, leaving, lent_table};
+ghost use Rattle.tables.specs.Reader.Reading.{lists, outcome, reading};
 
 use refusal::Answer;
-use table_reader::TableRead;
+use tables::reader::TableRead;
 
 #[unsafe(no_mangle)]
 pub extern "C" fn yexwalu_write_table(
@@ -21,7 +21,7 @@ pub extern "C" fn yexwalu_write_table(
     ensures out_after { out.new
         ≡ leaving (lent_table types.now fields.now consts.now bytes.now names.now) out.old }
 {
-    table_door::yexwalu_write_table(types, fields, consts, bytes, names, out)
+    yexwalu::table_texts::yexwalu_write_table(types, fields, consts, bytes, names, out)
 }
 
 #[unsafe(no_mangle)]
@@ -39,5 +39,7 @@ pub extern "C" fn yexwalu_read_table(
         ≡ reading (lists types.old fields.old consts.old bytes.old names.old) text.now words.old
         halves.old }
 {
-    table_door::yexwalu_read_table(types, fields, consts, bytes, names, text, words, halves)
+    yexwalu::table_texts::yexwalu_read_table(
+        types, fields, consts, bytes, names, text, words, halves,
+    )
 }

@@ -1,9 +1,9 @@
-// For C: the calls of same_door.
+// For C: the calls of yexwalu::saves.
 ghost use Rattle.std.specs.Prelude.{◌≡◌, [], ◌∷◌};
 ghost use Rattle.heap.specs.Lent.{lent};
-ghost use Rattle.door.specs.HeapCalls.{asked_of};
-ghost use Rattle.saves.specs.Saves.{save_of, words_of, same_call, order_call};
-ghost use Rattle.saves.specs.Right.{RightSame, RightOrder};
+ghost use Rattle.validate.specs.Door.HeapCalls.{asked_of};
+ghost use Rattle.compare.specs.Saves.Saves.{save_of, words_of, same_call, order_call};
+ghost use Rattle.compare.specs.Saves.Right.{RightSame, RightOrder};
 
 use heap::Heap;
 use refusal::Answer;
@@ -41,7 +41,7 @@ pub extern "C" fn yexwalu_same(
         (save_of (lent other other_narrow.now other_wide.now other_pool.now)
         other_roots.now other_marks.old other_work.old) result }
 {
-    same_door::yexwalu_same(
+    yexwalu::saves::yexwalu_same(
         types,
         fields,
         consts,
@@ -96,7 +96,7 @@ pub extern "C" fn yexwalu_order(
         (save_of (lent other other_narrow.now other_wide.now other_pool.now)
         other_roots.now other_marks.old other_work.old) result }
 {
-    same_door::yexwalu_order(
+    yexwalu::saves::yexwalu_order(
         types,
         fields,
         consts,

@@ -1,7 +1,7 @@
-// For C: the calls of yexwalu, types.
+// For C: the calls of yexwalu::types.
 ghost use Rattle.std.specs.Prelude.{◌≡◌, length};
 ghost use Rattle.refusal.specs.Told.{answered, here, nothing};
-ghost use Rattle.ty.specs.View.{table_of};
+ghost use Rattle.type_table.specs.Rows.View.{table_of};
 ghost use Rattle.layout.specs.Offsets.{offsets_of, written_by};
 ghost use Rattle.yexwalu.specs.Types.{laid, layout_called, size_called, handles_called};
 

@@ -3,7 +3,7 @@ use mathlib.Core.Path.{sym, subst, ◌≡◌}
 use lib.ListN.{length}
 use Rattle.heap.specs.Lent.{Lent, view}
 use Rattle.heap.specs.Inner.Loans.{lies}
-use Rattle.ty.specs.Lent.{lent}
+use Rattle.type_table.specs.Rows.Lent.{lent}
 use Rattle.mark.specs.Inner.Told.{told, marks_in, heap_marks, Ready}
 use Rattle.collect.proofs.Collecting.{collect-ready, collect-room, marks-again, work-again, collect-done}
 use Rattle.collect.proofs.collect.Goals as goal

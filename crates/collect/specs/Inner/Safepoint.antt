@@ -3,14 +3,14 @@
 use Rattle.std.specs.Prelude.{◌≡◌, Bool, true, false, List, ℕ, ◌+◌, ◌-◌, ◌*◌, ◌/◌, ◌≤◌, length, take, drop, replicate, if◌then◌else◌}
 use Rattle.std.proofs.Math.Option.{Option}
 use Rattle.word.specs.Ones.{passing}
-use Rattle.rows.specs.Inner.Row.{bit_in}
-use Rattle.ty.specs.Types.{Table}
+use Rattle.bitset.specs.Rows.Inner.Row.{bit_in}
+use Rattle.type_table.specs.Rows.Types.{Table}
 use Rattle.heap.specs.State.{State}
 use Rattle.heap.specs.Calls.{Changed, refuse}
-use Rattle.flow.specs.Function.{Function, safepoint}
+use Rattle.control_flow.specs.Flow.Function.{Function, safepoint}
 use Rattle.collection.specs.Joined.{live_references, joined}
 use Rattle.collection.specs.JoinedDemand.{Pinning}
-use Rattle.code.specs.Lent.{Lent, function, right, need}
+use Rattle.control_flow.specs.Code.Lent.{Lent, function, right, need}
 
 -- no map (16) where pc is no safepoint inside a block, the heap unchanged
 unfoldable pub at_safepoint : Table → Function → (pc : ℕ) (values : List ℕ) (frame : Option (List ℕ)) (pins : Pinning) → State → Changed Unit

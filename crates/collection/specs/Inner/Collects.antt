@@ -3,11 +3,11 @@ use Rattle.std.specs.Prelude.{◌≡◌, ◌↔◌, List, ℕ}
 use Rattle.word.specs.Result.{ok, refused}
 use Rattle.heap.specs.State.{State}
 use Rattle.heap.specs.Calls.{Changed}
-use Rattle.reach.specs.Reach.{Graph, Starts, UntraceableFrom}
+use Rattle.reachability.specs.Reach.Reach.{Graph, Starts, UntraceableFrom}
 use Rattle.collection.specs.Demand.{Survived}
 use Rattle.std.proofs.Math.Option.{Option, none, some}
-use Rattle.ty.specs.Types.{Table}
-use Rattle.flow.specs.Function.{Function}
+use Rattle.type_table.specs.Rows.Types.{Table}
+use Rattle.control_flow.specs.Flow.Function.{Function}
 use Rattle.collection.specs.Collected.{graph}
 use Rattle.collection.specs.Shown.{shown}
 use Rattle.collection.specs.JoinedDemand.{Pinning, JoinedStarts, UntraceableAt, Untraceable}

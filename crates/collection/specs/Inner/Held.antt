@@ -5,7 +5,7 @@ use Rattle.std.proofs.Math.Option.{Option}
 use Rattle.std.specs.Prelude.{List, ℕ, length, ltb}
 use Rattle.heap.specs.State.{State}
 use Rattle.heap.specs.Calls.{resolve}
-use Rattle.reach.specs.Reach.{Graph}
+use Rattle.reachability.specs.Reach.Reach.{Graph}
 use Rattle.collection.specs.Collected.{found}
 
 abbrev pub held_graph : State → (handles : ℕ → Option (List ℕ)) → Graph

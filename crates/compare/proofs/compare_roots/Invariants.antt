@@ -1,6 +1,6 @@
 -- `compare::compare_roots` meets its contract.
 use lib.ListN.{length}
-use Rattle.beside.specs.Inner.Ranks.{met_order}
+use Rattle.tracing.specs.Beside.Inner.Ranks.{met_order}
 use Rattle.compare.proofs.SideBySide.{GoesEven}
 use Rattle.compare.proofs.compare_roots.Given as goal
 

@@ -1,6 +1,6 @@
--- What the words of a marked heap's scratch hold: the objects in the order first met, and then the turn of each as well (alike/specs/inner/Packed).
+-- What the words of a marked heap's scratch hold: the objects in the order first met, and then the turn of each as well (reachability/specs/Alike/inner/Packed).
 use Rattle.std.specs.Prelude.{ℕ, ◌+◌, ◌*◌, ◌/◌, ◌%◌, ◌≤◌, ◌<◌, ◌≡◌, List, map, length, get_or, take}
-use Rattle.alike.specs.Order.{turn}
+use Rattle.reachability.specs.Alike.Order.{turn}
 
 -- the slots in the lower 24 bits of the first n words
 abbrev pub lows : (n : ℕ) → List ℕ → List ℕ

@@ -5,7 +5,7 @@ use Rattle.layout.proofs.LayLaws.{below-zero, below_rest, below-nowhere, below-c
 use Rattle.layout.proofs.LayLaws.{in_missing, in_array, in-record, in-scalar}
 use Rattle.layout.proofs.LayLaws.{record-last, record-none, record-over, record-more, rest-used}
 use Rattle.layout.proofs.Stops.{stops, hands_on}
-use Rattle.ty.proofs.Ranges.{record-within, part-start, part_end}
+use Rattle.type_table.proofs.RowsLaws.Ranges.{record-within, part-start, part_end}
 use Rattle.layout.proofs.+layout_array_layout_below_layout_field_layout_in_layout_record.Goals as goal
 
 pub layout_array-returns-in_err-n : goal.layout_array-returns-in_err-n

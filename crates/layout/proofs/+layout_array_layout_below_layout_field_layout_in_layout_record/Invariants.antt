@@ -3,8 +3,8 @@ use Prim.Native.Nat.{◌+◌, ◌-◌, ◌*◌, ◌≤◌}
 use mathlib.Core.Path.{◌≡◌}
 use lib.ListN.{length}
 use Rattle.layout.specs.Layout.{record_of, layout_at}
-use Rattle.ty.specs.Lent.{lent}
-use Rattle.ty.specs.View.{fields_from}
+use Rattle.type_table.specs.Rows.Lent.{lent}
+use Rattle.type_table.specs.Rows.View.{fields_from}
 use Rattle.layout.proofs.+layout_array_layout_below_layout_field_layout_in_layout_record.Given as goal
 
 abbrev pub decreases-layout_array : goal.decreases-layout_array

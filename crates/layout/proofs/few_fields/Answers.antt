@@ -1,5 +1,5 @@
 -- `layout::few_fields` meets its contract.
-use Rattle.ty.proofs.Rows.{row-is}
+use Rattle.type_table.proofs.RowsLaws.Rows.{row-is}
 use Rattle.layout.proofs.Few.{few-not, few-row}
 use Rattle.layout.proofs.few_fields.Goals as goal
 

@@ -1,8 +1,8 @@
 -- `layout::layout_any` meets its contract.
 use mathlib.Core.Path.{refl}
 use lib.ListN.{length}
-use Rattle.ty.proofs.Rows.{row-is, row-none}
-use Rattle.ty.proofs.Ranges.{record-within}
+use Rattle.type_table.proofs.RowsLaws.Rows.{row-is, row-none}
+use Rattle.type_table.proofs.RowsLaws.Ranges.{record-within}
 use Rattle.layout.proofs.OffsetLaws.{call_stop, call-bare, bare-offsets, call-short, call-full, full-offsets}
 use Rattle.layout.proofs.Stops.{hands_on}
 use Rattle.layout.proofs.layout_any.Goals as goal

@@ -1,8 +1,8 @@
 -- `layout::layout_listed` meets its contract.
 use Prim.Native.Nat.{◌+◌, ◌-◌}
 use mathlib.Core.Path.{◌≡◌}
-use Rattle.ty.specs.Lent.{lent}
-use Rattle.ty.specs.View.{fields_from}
+use Rattle.type_table.specs.Rows.Lent.{lent}
+use Rattle.type_table.specs.Rows.View.{fields_from}
 use Rattle.layout.specs.Layout.{record_of, layout_at}
 use Rattle.layout.proofs.OffsetLaws.{Writing}
 use Rattle.layout.proofs.layout_listed.Given as goal

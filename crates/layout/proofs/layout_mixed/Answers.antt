@@ -1,6 +1,6 @@
 -- `layout::layout_mixed` meets its contract.
 use mathlib.Core.Path.{refl, ◌∙◌}
-use Rattle.ty.proofs.Ranges.{record-within}
+use Rattle.type_table.proofs.RowsLaws.Ranges.{record-within}
 use Rattle.layout.proofs.Few.{few-call, few-offsets}
 use Rattle.layout.proofs.layout_mixed.Goals as goal
 

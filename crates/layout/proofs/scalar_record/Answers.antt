@@ -1,7 +1,7 @@
 -- `layout::scalar_record` meets its contract.
 use mathlib.Core.Path.{refl}
-use Rattle.ty.proofs.Ranges.{record-within}
-use Rattle.ty.proofs.Rows.{row-is}
+use Rattle.type_table.proofs.RowsLaws.Ranges.{record-within}
+use Rattle.type_table.proofs.RowsLaws.Rows.{row-is}
 use Rattle.layout.proofs.ScalarLaws.{row-not, row_of}
 use Rattle.layout.proofs.scalar_record.Goals as goal
 

@@ -1,8 +1,8 @@
 -- `layout::span` meets its contract.
 use mathlib.Core.Path.{sym, ap, ◌∙◌}
 use native.Mathlib.Omega.{arith}
-use Rattle.ty.specs.Words.{word_of}
-use Rattle.ty.proofs.Laws.{word-is}
+use Rattle.type_table.specs.Rows.Words.{word_of}
+use Rattle.type_table.proofs.RowsLaws.Laws.{word-is}
 use Rattle.layout.proofs.span.Goals as goal
 
 pub returns-then-hi-lo : goal.returns-then-hi-lo

@@ -1,5 +1,5 @@
 -- `layout::write_offsets` meets its contract.
-use Rattle.ty.specs.Lent.{lent}
+use Rattle.type_table.specs.Rows.Lent.{lent}
 use Rattle.layout.proofs.OffsetLaws.{Writing}
 use Rattle.layout.proofs.write_offsets.Given as goal
 

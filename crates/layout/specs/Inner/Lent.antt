@@ -1,16 +1,16 @@
 -- What the contracts of the layout's functions cite: the definitions, at the lists of the four lent slices.
 use Rattle.std.specs.Prelude.{ℕ, suc, ◌+◌, ◌*◌, ◌/◌, ◌≤◌, ◌<◌, ◌≡◌, List, eqb, length, get_or, Option, Some, None, IsSome, Ok, if◌then◌else◌}
 use Rattle.word.specs.Put.{put}
-use Rattle.ty.specs.Types.{type_at, none}
-use Rattle.ty.specs.Scalars.{scalar_size}
-use Rattle.ty.specs.View.{entry_at, fields_from}
-use Rattle.ty.specs.declared.Table.{Table}
-use Rattle.ty.specs.declared.Entry.TheVariants.{Record}
+use Rattle.type_table.specs.Rows.Types.{type_at, none}
+use Rattle.type_table.specs.Rows.Scalars.{scalar_size}
+use Rattle.type_table.specs.Rows.View.{entry_at, fields_from}
+use Rattle.type_table.specs.declared.rows.Table.{Table}
+use Rattle.type_table.specs.declared.rows.Entry.TheVariants.{Record}
 use Rattle.layout.specs.Layout.{Lay, under, array_of, record_of, layout_at}
 use Rattle.layout.specs.Offsets.{offsets_from, listed_in, written_by}
 use Rattle.layout.specs.Inner.Told.{told}
 use Rattle.layout.specs.declared.Layout.{Layout}
-use Rattle.ty.specs.Lent.{lent}
+use Rattle.type_table.specs.Rows.Lent.{lent}
 
 module _ (T : Table) where
   -- the bytes of a field that is a scalar without a constant

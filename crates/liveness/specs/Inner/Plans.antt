@@ -1,9 +1,9 @@
 -- What is said of the scratch beside a plan: its shape, and what is built there.
 use Rattle.std.specs.Prelude.{List, ℕ, ◌+◌, ◌*◌, ◌≤◌, length}
-use Rattle.code.specs.Inner.Columns.{wanted}
-use Rattle.code.specs.declared.Blocks.{Blocks}
-use Rattle.code.specs.declared.Flow.{Flow}
-use Rattle.code.specs.declared.Plan.{Plan}
+use Rattle.control_flow.specs.Code.Inner.Columns.{wanted}
+use Rattle.control_flow.specs.declared.code.Blocks.{Blocks}
+use Rattle.control_flow.specs.declared.code.Flow.{Flow}
+use Rattle.control_flow.specs.declared.code.Plan.{Plan}
 use Rattle.liveness.specs.Inner.Chains.{Chains}
 use Rattle.liveness.specs.Inner.Scratch.{Begun, Built}
 

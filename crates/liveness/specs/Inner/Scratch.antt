@@ -3,11 +3,11 @@
 -- through one block, and one that no step needs.
 use Rattle.std.specs.Prelude.{◌≡◌, ◌⊎◌, Bool, true, false, ◌&&◌, List, [], ◌∷◌, ℕ, ◌+◌, ◌-◌, ◌*◌, ◌/◌, ◌%◌, ◌≤◌, ◌<◌, length, get_or, take, ltb, if◌then◌else◌}
 use Rattle.word.specs.Inner.Bit.{bit}
-use Rattle.rows.specs.Inner.Row.{listed}
-use Rattle.flow.specs.Function.{Function}
-use Rattle.flow.specs.Dataflow.{gen, kill, out, into, live_in}
-use Rattle.code.specs.Inner.Columns.{seen}
-use Rattle.flow.specs.Inner.Sets.{Sound}
+use Rattle.bitset.specs.Rows.Inner.Row.{listed}
+use Rattle.control_flow.specs.Flow.Function.{Function}
+use Rattle.control_flow.specs.Flow.Dataflow.{gen, kill, out, into, live_in}
+use Rattle.control_flow.specs.Code.Inner.Columns.{seen}
+use Rattle.control_flow.specs.Flow.Inner.Sets.{Sound}
 
 -- only the w words from a differ
 pub record Outside (s s' : List ℕ) (a w : ℕ) : Type 0 where

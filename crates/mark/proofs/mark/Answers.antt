@@ -1,7 +1,7 @@
 -- `mark::mark` meets its contract.
 use Rattle.mark.specs.Inner.Objects.{laid}
 use Rattle.mark.proofs.HeapMarked.{laid-scratch, laid-stuck, laid-marked}
-use Rattle.ty.specs.Lent.{lent}
+use Rattle.type_table.specs.Rows.Lent.{lent}
 use Rattle.mark.proofs.mark.Goals as goal
 
 pub slice_bounds-mark_from-end : goal.slice_bounds-mark_from-end

@@ -4,10 +4,10 @@ use Rattle.std.proofs.Math.Option.{Option}
 use Rattle.word.specs.Run.{run, start_of}
 use Rattle.handle.specs.Inner.Columns.{live_in}
 use Rattle.heap.specs.Packing.{data_at}
-use Rattle.ty.specs.Types.{Table}
-use Rattle.trace.specs.Places.{handles_of}
-use Rattle.trace.specs.Inner.Emit.{resolve_in, Runs}
-use Rattle.reach.specs.Reach.{Graph}
+use Rattle.type_table.specs.Rows.Types.{Table}
+use Rattle.tracing.specs.Trace.Places.{handles_of}
+use Rattle.tracing.specs.Trace.Inner.Emit.{resolve_in, Runs}
+use Rattle.reachability.specs.Reach.Reach.{Graph}
 use Rattle.collection.specs.Collected.{found}
 
 -- the slot that a handle leads to in the heap with this tag and so many of S slots in use

@@ -2,13 +2,13 @@
 use Rattle.std.specs.Prelude.{Bool, List, [], ◌∷◌, ◌++◌, ℕ, length, get_or, ltb, eqb, if◌then◌else◌}
 use Rattle.std.proofs.Math.Option.{Option, none, some}
 use Rattle.word.specs.Ones.{passing}
-use Rattle.rows.specs.Inner.Row.{bit_in}
+use Rattle.bitset.specs.Rows.Inner.Row.{bit_in}
 use Rattle.heap.specs.State.{State as Heap}
-use Rattle.ty.specs.Types.{Table}
-use Rattle.reach.specs.Reach.{Graph}
-use Rattle.reach.specs.Marking.{State, follow_all, pin_all, drained, marking}
+use Rattle.type_table.specs.Rows.Types.{Table}
+use Rattle.reachability.specs.Reach.Reach.{Graph}
+use Rattle.reachability.specs.Reach.Marking.{State, follow_all, pin_all, drained, marking}
 use Rattle.mark.specs.Inner.Scratch.{seeded_from}
-use Rattle.addresses.specs.Listed.{slots_of}
+use Rattle.collection.specs.Addresses.Listed.{slots_of}
 use Rattle.collection.specs.Shown.{shown}
 use Rattle.collection.specs.Collected.{starts}
 use Rattle.collection.specs.Inner.Held.{held_graph}

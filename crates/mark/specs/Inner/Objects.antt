@@ -5,8 +5,8 @@ use Rattle.word.specs.Run.{run}
 use Rattle.handle.specs.Inner.Columns.{live_in}
 use Rattle.handle.specs.declared.Slots.{Slots}
 use Rattle.heap.specs.declared.view.View.{View}
-use Rattle.ty.specs.Types.{Table}
-use Rattle.reach.specs.Reach.{Graph}
+use Rattle.type_table.specs.Rows.Types.{Table}
+use Rattle.reachability.specs.Reach.Reach.{Graph}
 use Rattle.mark.specs.Inner.Graph.{leads_to, graph_in, held_in}
 use Rattle.mark.specs.declared.objects.Objects.{Objects}
 

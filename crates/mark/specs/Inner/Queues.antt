@@ -1,8 +1,8 @@
 -- What a step leaves of the lent scratch of a marking.
 use Rattle.std.specs.Prelude.{Option, Some, None, ◌≡◌, ℕ}
 use Rattle.std.proofs.Math.Option as math
-use Rattle.trace.specs.Inner.Emit.{InUse}
-use Rattle.reach.specs.Marking.{State}
+use Rattle.tracing.specs.Trace.Inner.Emit.{InUse}
+use Rattle.reachability.specs.Reach.Marking.{State}
 use Rattle.mark.specs.Inner.Scratch.{state_of, Scratch, Holds, Traces, Noted, NotedBy}
 use Rattle.mark.specs.declared.queue.Queue.{Queue}
 

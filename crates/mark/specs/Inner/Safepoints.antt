@@ -1,10 +1,10 @@
 -- What a joined marking gets of a safepoint: the values of live registers, the frame's handles, and what pins.
 use Rattle.std.specs.Prelude.{ℕ, List, ◌++◌}
 use Rattle.std.proofs.Math.Option.{Option}
-use Rattle.ty.specs.Types.{Table}
-use Rattle.frame.specs.Frame.{frame_handles, addresses_in}
-use Rattle.addresses.specs.Listed.{slots_of}
-use Rattle.addresses.specs.declared.Pairs.{Pairs}
+use Rattle.type_table.specs.Rows.Types.{Table}
+use Rattle.tracing.specs.Frame.Frame.{frame_handles, addresses_in}
+use Rattle.collection.specs.Addresses.Listed.{slots_of}
+use Rattle.collection.specs.declared.addresses.Pairs.{Pairs}
 use Rattle.mark.specs.Inner.Joining.{row_values}
 use Rattle.mark.specs.declared.registers.Registers.{Registers}
 use Rattle.mark.specs.declared.registers.Frame.{Frame}

@@ -1,9 +1,9 @@
--- The scratch of a marking as the state that crate `reach` defines: what the inner functions ask and ensure.
-use Rattle.trace.specs.Inner.Emit.{InUse}
+-- The scratch of a marking as the state that crate `reachability` defines: what the inner functions ask and ensure.
+use Rattle.tracing.specs.Trace.Inner.Emit.{InUse}
 use Rattle.std.specs.Prelude.{Some, true, None, ℕ, ◌≤◌, ◌/◌, ◌%◌, ◌^◌, ◌≡◌, Bool, List, ◌++◌, map, length, take, replicate}
 use Rattle.std.proofs.Math.Option.{Option, none, some}
-use Rattle.reach.specs.Marking.{State, follow_all, pin_all}
-use Rattle.reach.specs.Inner.Good.{Good}
+use Rattle.reachability.specs.Reach.Marking.{State, follow_all, pin_all}
+use Rattle.reachability.specs.Reach.Inner.Good.{Good}
 use Rattle.word.specs.Lists.{rising}
 use Rattle.heap.specs.Lent.{Lent, slot_count}
 use Rattle.heap.specs.WellFormed.{well_formed}

@@ -4,9 +4,9 @@ use Rattle.std.proofs.Math.Option.{Option, none, some}
 use Rattle.word.specs.Result.{Result, ok, refused}
 use Rattle.heap.specs.Packing.{pad}
 use Rattle.heap.specs.State.{State as Heap}
-use Rattle.reach.specs.Reach.{Starts}
-use Rattle.reach.specs.Marking.{State, marking}
-use Rattle.ty.specs.Types.{Table}
+use Rattle.reachability.specs.Reach.Reach.{Starts}
+use Rattle.reachability.specs.Reach.Marking.{State, marking}
+use Rattle.type_table.specs.Rows.Types.{Table}
 use Rattle.collection.specs.Collected.{graph, starts}
 use Rattle.collection.specs.Shown.{shown}
 use Rattle.refusal.specs.declared.Refusal.{Refusal}

@@ -1,12 +1,12 @@
-use Rattle.page_parser.proofs.Remaining.{read_next, read_some, read-end, read-rest}
+use Rattle.page_check.proofs.PageParserLaws.Remaining.{read_next, read_some, read-end, read-rest}
 use Rattle.page_check.proofs.Rules.{agree-next, agree-done}
-use Rattle.page_parser.proofs.Reading.{line-found, line-lost}
-use Rattle.page_parser.specs.Inner.Slots.{slots_at}
-use Rattle.pages.proofs.Writing.{blank}
+use Rattle.page_check.proofs.PageParserLaws.Reading.{line-found, line-lost}
+use Rattle.page_check.specs.PageParser.Inner.Slots.{slots_at}
+use Rattle.page_format.proofs.PagesLaws.Writing.{blank}
 use Rattle.heap.specs.State.{Slot, bit}
 use Rattle.text.specs.Format.{read_all}
 use Prim.Native.Nat.{ℕ}
-use Rattle.pages.specs.Reading.{slot_format}
+use Rattle.page_format.specs.Pages.Reading.{slot_format}
 use Rattle.text.specs.Reading.{give}
 use lib.ListN.{drop}
 use native.Mathlib.Nat.{sub-zero}

@@ -1,8 +1,8 @@
 use Rattle.page_check.specs.Inner.Rules.{agree}
-use Rattle.page_parser.specs.Inner.Slots.{slots_at}
+use Rattle.page_check.specs.PageParser.Inner.Slots.{slots_at}
 use Rattle.text.specs.Format.{read_all}
 use Prim.Native.Nat.{ℕ, ◌-◌, ◌≤◌}
-use Rattle.pages.specs.Reading.{slot_format}
+use Rattle.page_format.specs.Pages.Reading.{slot_format}
 use Rattle.text.specs.Reading.{give}
 use lib.ListN.{length, drop}
 use mathlib.Core.Path.{◌≡◌}

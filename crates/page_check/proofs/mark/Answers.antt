@@ -1,7 +1,7 @@
 use Rattle.page_check.proofs.Marking.{mark-nothing, mark-next, mark-stop, mark-all}
-use Rattle.page_parser.proofs.Lists.{value_found, value_none}
-use Rattle.page_parser.proofs.Remaining.{read_next, read_some, read-end}
-use Rattle.page_parser.specs.Inner.Values.{values_at}
+use Rattle.page_check.proofs.PageParserLaws.Lists.{value_found, value_none}
+use Rattle.page_check.proofs.PageParserLaws.Remaining.{read_next, read_some, read-end}
+use Rattle.page_check.specs.PageParser.Inner.Values.{values_at}
 use Rattle.text.specs.Format.{number, read_all}
 use lib.ListN.{drop}
 use native.Mathlib.Nat.{sub-zero}

@@ -1,4 +1,4 @@
-use Rattle.page_parser.specs.Inner.Values.{values_at}
+use Rattle.page_check.specs.PageParser.Inner.Values.{values_at}
 use Rattle.page_check.specs.Inner.Marks.{Marked}
 use Rattle.text.specs.Format.{number, read_all}
 use Prim.Native.Nat.{ℕ, ◌-◌, ◌≤◌}

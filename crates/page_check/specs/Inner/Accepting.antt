@@ -6,8 +6,8 @@ use Rattle.refusal.specs.declared.Refusal.{Refusal}
 use Rattle.refusal.specs.Told.{number_of}
 use Rattle.heap.specs.State.{State}
 use Rattle.word.specs.Result.{Result, ok, refused}
-use Rattle.page_parser.specs.Inner.Sections.{brought_in, Sectioned}
-use Rattle.page_parser.specs.declared.Sections.{Sections}
+use Rattle.page_check.specs.PageParser.Inner.Sections.{brought_in, Sectioned}
+use Rattle.page_check.specs.declared.page_parser.Sections.{Sections}
 use Rattle.page_check.specs.declared.page.Page.{Page}
 
 -- a page that can be read

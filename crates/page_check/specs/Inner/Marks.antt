@@ -1,7 +1,7 @@
 -- Which of some slots stand in the lists of a page, one bit a slot in lent words.
 use Rattle.std.specs.Prelude.{ℕ, ◌+◌, ◌≤◌, ◌<◌, List, ◌≡◌, Bool, true, false}
 use Rattle.heap.specs.State.{bit, times}
-use Rattle.rows.specs.Inner.Row.{bit_in}
+use Rattle.bitset.specs.Rows.Inner.Row.{bit_in}
 
 -- how often the slot of a bit was met: 1 where it is set
 abbrev pub marked : (row : List ℕ) → ℕ → ℕ

@@ -2,8 +2,8 @@
 use Rattle.std.specs.Prelude.{ℕ, ◌+◌, ◌≤◌, List, [], ◌∷◌, ◌++◌, ◌≡◌, Bool, true, false, not, ◌&&◌, ◌||◌, eqb, ltb, length, drop, if◌then◌else◌}
 use Rattle.heap.specs.State.{Slot, State, times, last_generation}
 use Rattle.text.specs.Format.{read_all}
-use Rattle.pages.specs.Reading.{slot_format}
-use Rattle.page_parser.specs.Inner.Slots.{slots_at}
+use Rattle.page_format.specs.Pages.Reading.{slot_format}
+use Rattle.page_check.specs.PageParser.Inner.Slots.{slots_at}
 use Rattle.page_check.specs.Inner.Marks.{marked}
 use Rattle.page_check.specs.declared.Rule.{Rule}
 use Rattle.page_check.specs.declared.Rule.TheVariants.{Once, Young, Worn}

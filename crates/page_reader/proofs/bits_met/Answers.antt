@@ -1,5 +1,5 @@
 use mathlib.Core.Path.{ap, sym}
-use Rattle.pages.specs.Form.{writes_width}
+use Rattle.page_format.specs.Pages.Form.{writes_width}
 use Rattle.page_reader.proofs.bits_met.Goals as goal
 
 pub returns-then-wide : goal.returns-then-wide

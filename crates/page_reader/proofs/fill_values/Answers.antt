@@ -1,6 +1,6 @@
 use native.Mathlib.Omega.{arith}
 use mathlib.Core.Path.{sym, ◌∙◌}
-use Rattle.pages.proofs.Numbers.{numbers-length, numbers-set}
+use Rattle.page_format.proofs.PagesLaws.Numbers.{numbers-length, numbers-set}
 use Rattle.page_reader.proofs.Listing.{listing-begin, listing-some, listing-fits, listing-next, listing-end}
 use Rattle.page_reader.proofs.fill_values.Goals as goal
 

@@ -3,8 +3,8 @@ use mathlib.Core.List.{List}
 use mathlib.Core.Path.{sym, ap, subst, ◌∙◌}
 use lib.ListN.{length}
 use Rattle.heap.specs.Lent.{stored}
-use Rattle.page_parser.specs.Contents.{heap_in}
-use Rattle.page_parser.specs.Inner.Sections.{brought_in}
+use Rattle.page_check.specs.PageParser.Contents.{heap_in}
+use Rattle.page_check.specs.PageParser.Inner.Sections.{brought_in}
 use Rattle.page_reader.specs.Inner.Columns.{Roomy}
 use Rattle.heap.specs.Lent.{lent}
 use Rattle.page_reader.proofs.Loaded.{in-range, sizes-some, is-page, roomy, read_done, read-refused}

@@ -1,7 +1,7 @@
 use native.Mathlib.Omega.{arith}
 use mathlib.Core.Path.{refl, sym, subst}
-use Rattle.figures.proofs.Showing.{small-line, small-none}
-use Rattle.figures.specs.Inner.Counting.{line_of, Small}
+use Rattle.shelves.proofs.CountedLaws.Showing.{small-line, small-none}
+use Rattle.shelves.specs.Counted.Inner.Counting.{line_of, Small}
 use Rattle.shelves.specs.declared.Next.TheVariants.{Whole, Passed}
 use Rattle.shelves.proofs.Going.{goes-still, before_last, goes-whole, goes-passed}
 use Rattle.shelves.proofs.step.Goals as goal

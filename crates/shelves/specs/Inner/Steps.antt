@@ -2,16 +2,16 @@
 use Rattle.std.specs.Prelude.{ℕ, ◌+◌, ◌-◌, ◌≤◌, ◌<◌, Bool, true, false, List, ◌∷◌, ◌++◌, map, ◌≡◌, length, take, drop}
 use Rattle.word.specs.Result.{Result, refused}
 use Rattle.text.specs.declared.output.Out.{Out}
-use Rattle.figures.specs.declared.Figures.{Figures}
+use Rattle.shelves.specs.declared.counted.Figures.{Figures}
 use Rattle.shelves.specs.declared.At.{At}
 use Rattle.shelves.specs.declared.At.TheVariants.{Line, Page as InPage, Passing, Over}
 use Rattle.shelves.specs.declared.Next.{Next}
 use Rattle.shelves.specs.declared.Next.TheVariants.{Still, Whole, Passed}
 use Rattle.shelves.specs.declared.Shelf.{Shelf}
-use Rattle.figures.specs.Figures.{merge, total}
+use Rattle.shelves.specs.Counted.Figures.{merge, total}
 use Rattle.std.specs.Prelude.{Result as Outcome}
 use Rattle.shelves.specs.Shelf.{whole, by_bytes, pages_in, shown, answers_in}
-use Rattle.figures.specs.Inner.Counting.{shown_as}
+use Rattle.shelves.specs.Counted.Inner.Counting.{shown_as}
 use Rattle.shelves.specs.Steps.{left_at, printed, text_left, GoodAt, most_at, Good}
 
 -- the same after some input was taken in: a page may be whole, or passed over whole

@@ -1,7 +1,7 @@
 use Rattle.text.specs.Text.{ascii}
 use Rattle.values.specs.Values.{descriptor_line}
 use Rattle.values.specs.Inner.Paths.{path_text}
-use Rattle.sheet.proofs.Sheets.{and_then, then-byte}
+use Rattle.text.proofs.SheetLaws.Sheets.{and_then, then-byte}
 use Rattle.values.proofs.put_object.Goals as goal
 
 pub returns : goal.returns

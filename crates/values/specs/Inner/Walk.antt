@@ -3,9 +3,9 @@ use Rattle.std.specs.Prelude.{ℕ, ◌+◌, ◌-◌, ◌*◌, ◌≤◌, ◌<◌
 use Rattle.std.specs.Prelude.{Option as Maybe}
 use Rattle.std.proofs.Math.Option.{Option, none, some}
 use Rattle.text.specs.Text.{comma}
-use Rattle.ty.specs.View.{fields_from}
-use Rattle.ty.specs.Lent.{lent}
-use Rattle.ty.specs.declared.Table.{Table}
+use Rattle.type_table.specs.Rows.View.{fields_from}
+use Rattle.type_table.specs.Rows.Lent.{lent}
+use Rattle.type_table.specs.declared.rows.Table.{Table}
 use Rattle.values.specs.Values.{cells_text, cells_at, part_cells, array_cells, element_cells, field_cells, element_path, descriptor_line, Parts}
 use Rattle.values.specs.Names.{names_of, until}
 use Rattle.values.specs.declared.names.Lines.{Lines}

@@ -1,9 +1,9 @@
 -- `collect::joined::collect_at` meets its contract.
 use mathlib.Core.Path.{refl, sym}
-use Rattle.ty.specs.Lent.{lent as table_lent}
-use Rattle.frame.specs.Frame.{frame_handles, addresses_in}
+use Rattle.type_table.specs.Rows.Lent.{lent as table_lent}
+use Rattle.tracing.specs.Frame.Frame.{frame_handles, addresses_in}
 use Rattle.collect.proofs.RootRows.{small, row-past, rows-again, at_none, at_row}
-use Rattle.code.specs.Inner.Plans.{lent}
+use Rattle.control_flow.specs.Code.Inner.Plans.{lent}
 use Rattle.collect.proofs.joined.collect_at.Goals as goal
 
 pub returns-then-not-root_row : goal.returns-then-not-root_row

@@ -3,9 +3,9 @@ use mathlib.Core.Path.{sym, subst}
 use mathlib.Core.Bool.{true, false}
 use Prim.Native.Nat.{◌≤◌}
 use lib.ListN.{length}
-use Rattle.code.specs.Lent.{Lent, need}
-use Rattle.code.specs.Inner.Plans.{planned}
-use Rattle.roots.proofs.Asking.{need-rows}
+use Rattle.control_flow.specs.Code.Lent.{Lent, need}
+use Rattle.control_flow.specs.Code.Inner.Plans.{planned}
+use Rattle.liveness.proofs.RootsLaws.Asking.{need-rows}
 use Rattle.collect.specs.Inner.Safepoint.{RootRow}
 use Rattle.collect.proofs.RootRows.{look-none, plan-found}
 use Rattle.collect.proofs.joined.root_row.Goals as goal

@@ -1,12 +1,12 @@
 -- `liveness::fixpoint::analyse` meets its contract.
 use native.Mathlib.Omega.{arith}
 use mathlib.Core.Path.{refl, sym, ◌∙◌}
-use Rattle.code.proofs.Plans.{few-blocks}
+use Rattle.control_flow.proofs.CodeLaws.Plans.{few-blocks}
 use Rattle.liveness.proofs.Chaining.{chains-none}
-use Rattle.code.specs.Inner.Columns.{wanted}
-use Rattle.code.proofs.Marks.{zeros-at}
+use Rattle.control_flow.specs.Code.Inner.Columns.{wanted}
+use Rattle.control_flow.proofs.CodeLaws.Marks.{zeros-at}
 use Rattle.liveness.proofs.Passes.{solved-fixed}
-use Rattle.code.proofs.Forms.{seen-disjoint, seen-count}
+use Rattle.control_flow.proofs.CodeLaws.Forms.{seen-disjoint, seen-count}
 use Rattle.liveness.proofs.fixpoint.analyse.Goals as goal
 
 pub returns-then-plan-eq0 : goal.returns-then-plan-eq0

@@ -3,8 +3,8 @@ use native.Mathlib.Omega.{arith}
 use mathlib.Core.Path.{◌∙◌, ap}
 use mathlib.Core.Bool.{Bool}
 use Prim.Native.Nat.{◌-◌}
-use Rattle.flow.specs.Dataflow.{back}
-use Rattle.code.specs.Inner.Columns.{wanted, seen}
+use Rattle.control_flow.specs.Flow.Dataflow.{back}
+use Rattle.control_flow.specs.Code.Inner.Columns.{wanted, seen}
 use Rattle.liveness.proofs.Scratch.{mid-frame, mid-cell, mid-bit, mid-length}
 use Rattle.liveness.proofs.fixpoint.back_at.Goals as goal
 

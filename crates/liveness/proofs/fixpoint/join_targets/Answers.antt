@@ -4,7 +4,7 @@ use mathlib.Core.List.{List}
 use Prim.Native.Nat.{ℕ, ◌*◌}
 use Rattle.liveness.specs.Inner.Scratch.{Outside, cell}
 use Rattle.liveness.specs.Inner.Plans.{live_out}
-use Rattle.code.proofs.Plans.{slice-all}
+use Rattle.control_flow.proofs.CodeLaws.Plans.{slice-all}
 use Rattle.liveness.proofs.Scratch.{block-fits, in-out-apart, targets-none, targets-on, targets-skip, targets-end}
 use Rattle.liveness.proofs.fixpoint.join_targets.Goals as goal
 use Rattle.liveness.proofs.fixpoint.join_targets.Goals.{then-t-nb, else-t-nb}

@@ -6,11 +6,11 @@ use mathlib.Core.Logic.{inl, inr}
 use mathlib.Core.Bool.{Bool, ◌||◌}
 use Prim.Native.Nat.{◌+◌, ◌-◌, ◌*◌}
 use Rattle.liveness.specs.Inner.Scratch.{cell, live_at}
-use Rattle.code.proofs.Views.{next_fits}
-use Rattle.code.proofs.Views.{last-inside}
+use Rattle.control_flow.proofs.CodeLaws.Views.{next_fits}
+use Rattle.control_flow.proofs.CodeLaws.Views.{last-inside}
 use Rattle.liveness.proofs.Scratch.{outside_refl, block-fits, in-out-apart, leave_none, leave-targets, leave-stop, leave-next, joined-one, joined-none}
 use Rattle.liveness.proofs.Chaining.{first-start}
-use Rattle.code.proofs.Plans.{part-slice}
+use Rattle.control_flow.proofs.CodeLaws.Plans.{part-slice}
 use Rattle.liveness.proofs.fixpoint.leave.Goals as goal
 use Rattle.liveness.proofs.fixpoint.leave.Goals.{then-k-ge2+else-k-le4+else-k-le6, else-k-ge2}
 

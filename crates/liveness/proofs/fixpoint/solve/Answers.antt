@@ -1,7 +1,7 @@
 use native.Mathlib.Omega.{arith}
 use Prim.Native.Nat.{◌*◌}
 use lib.ListN.{take, length-take}
-use Rattle.rows.proofs.Listing.{listed_le}
+use Rattle.bitset.proofs.RowsLaws.Listing.{listed_le}
 use Rattle.liveness.proofs.fixpoint.solve.Goals as goal
 
 pub loop-done-smaller : goal.loop-done-smaller

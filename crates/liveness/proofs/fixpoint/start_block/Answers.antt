@@ -3,9 +3,9 @@ use native.Mathlib.Omega.{arith}
 use mathlib.Core.Path.{refl, ◌∙◌, subst}
 use Prim.Native.Nat.{ℕ, ◌*◌, ◌≤◌}
 use lib.ListN.{length}
-use Rattle.code.specs.Inner.Columns.{wanted}
+use Rattle.control_flow.specs.Code.Inner.Columns.{wanted}
 use Rattle.liveness.proofs.Scratch.{block-fits}
-use Rattle.code.proofs.Plans.{block-inside, few-blocks}
+use Rattle.control_flow.proofs.CodeLaws.Plans.{block-inside, few-blocks}
 use Rattle.liveness.proofs.Builds.{begun-none, begun-rows}
 use Rattle.liveness.proofs.fixpoint.start_block.Goals as goal
 

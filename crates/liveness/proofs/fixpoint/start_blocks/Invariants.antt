@@ -1,5 +1,5 @@
 -- `liveness::fixpoint::start_blocks` meets its contract.
-use Rattle.code.specs.Inner.Columns.{wanted}
+use Rattle.control_flow.specs.Code.Inner.Columns.{wanted}
 use Rattle.liveness.proofs.Builds.{Builds}
 use Rattle.liveness.proofs.fixpoint.start_blocks.Given as goal
 

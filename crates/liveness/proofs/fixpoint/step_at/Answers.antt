@@ -3,8 +3,8 @@ use mathlib.Core.Path.{◌∙◌}
 use Prim.Native.Nat.{◌+◌, ◌*◌}
 use native.Mathlib.Omega.{arith}
 use borrow.Rule.Slice.PartMut.{mid_len}
-use Rattle.rows.proofs.RowLaws.{put-part}
-use Rattle.rows.proofs.Nested.{stepped-block}
+use Rattle.bitset.proofs.RowsLaws.RowLaws.{put-part}
+use Rattle.bitset.proofs.RowsLaws.Nested.{stepped-block}
 use Rattle.liveness.proofs.fixpoint.step_at.Goals as goal
 
 pub step_block-requires : goal.step_block-requires

@@ -1,15 +1,15 @@
 -- `mark::joined::mark_frame` meets its contract.
 use Prim.Native.Nat.{ℕ}
 use Rattle.std.specs.Prelude.{Some, None}
-use Rattle.frame.specs.Frame.{entries_of}
-use Rattle.frame.specs.Inner.Words.{entries_words}
-use Rattle.frame.proofs.Words.{frame-words}
-use Rattle.addresses.specs.Listed.{slots_of}
+use Rattle.tracing.specs.Frame.Frame.{entries_of}
+use Rattle.tracing.specs.Frame.Inner.Words.{entries_words}
+use Rattle.tracing.proofs.FrameLaws.Words.{frame-words}
+use Rattle.collection.specs.Addresses.Listed.{slots_of}
 use Rattle.mark.specs.Inner.Safepoints.{live_values, handles_in, pinned_in}
 use Rattle.mark.proofs.States.{then-same}
 use Rattle.mark.proofs.FrameMarks.{frame-scratch, frame-stuck, frame-marked}
 use Rattle.mark.proofs.QueueLoop.{reached, stuck}
-use Rattle.ty.specs.Lent.{lent}
+use Rattle.type_table.specs.Rows.Lent.{lent}
 use mathlib.Core.Path.{sym, ap}
 use mathlib.Core.List.{List, ◌++◌}
 use Rattle.mark.proofs.joined.mark_frame.Goals as goal

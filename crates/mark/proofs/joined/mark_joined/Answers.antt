@@ -2,7 +2,7 @@
 use Rattle.mark.specs.Inner.Objects.{laid}
 use Rattle.mark.specs.Inner.Safepoints.{live_values, handles_in, pinned_in}
 use Rattle.mark.proofs.HeapMarked.{laid-scratch, laid-joined-stuck, laid-joined-marked}
-use Rattle.ty.specs.Lent.{lent}
+use Rattle.type_table.specs.Rows.Lent.{lent}
 use Rattle.mark.proofs.joined.mark_joined.Goals as goal
 
 pub slice_bounds-mark_frame-end : goal.slice_bounds-mark_frame-end

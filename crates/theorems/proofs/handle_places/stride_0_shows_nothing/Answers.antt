@@ -1,5 +1,5 @@
 -- `theorems::handle_places::stride_0_shows_nothing` meets its contract.
-use Rattle.places.proofs.StrideZero.{shows_nothing}
+use Rattle.tracing.proofs.PlacesLaws.StrideZero.{shows_nothing}
 use Rattle.theorems.proofs.handle_places.stride_0_shows_nothing.Goals as goal
 
 pub returns : goal.returns

@@ -1,5 +1,5 @@
 -- `theorems::handle_places::stride_0_walk_shows_nothing` meets its contract.
-use Rattle.places.proofs.StrideZero.{walk-shows-nothing}
+use Rattle.tracing.proofs.PlacesLaws.StrideZero.{walk-shows-nothing}
 use Rattle.theorems.proofs.handle_places.stride_0_walk_shows_nothing.Goals as goal
 
 pub returns : goal.returns

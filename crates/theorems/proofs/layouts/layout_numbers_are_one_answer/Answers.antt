@@ -1,5 +1,5 @@
 -- `theorems::layouts::layout_numbers_are_one_answer` meets its contract.
-use Rattle.held_types.proofs.Once.{laid-once}
+use Rattle.layout.proofs.NumbersLaws.Once.{laid-once}
 use Rattle.theorems.proofs.layouts.layout_numbers_are_one_answer.Goals as goal
 
 pub returns : goal.returns

@@ -1,5 +1,5 @@
 -- `theorems::layouts::layout_where_0` meets its contract.
-use Rattle.held_types.proofs.Once.{laid-zero}
+use Rattle.layout.proofs.NumbersLaws.Once.{laid-zero}
 use Rattle.theorems.proofs.layouts.layout_where_0.Goals as goal
 
 pub returns : goal.returns

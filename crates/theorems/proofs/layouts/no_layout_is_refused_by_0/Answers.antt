@@ -1,5 +1,5 @@
 -- `theorems::layouts::no_layout_is_refused_by_0` meets its contract.
-use Rattle.held_types.proofs.Once.{layout-numbered}
+use Rattle.layout.proofs.NumbersLaws.Once.{layout-numbered}
 use Rattle.theorems.proofs.layouts.no_layout_is_refused_by_0.Goals as goal
 
 pub returns : goal.returns

@@ -1,5 +1,5 @@
 -- `theorems::save_order::comparing_is_told` meets its contract.
-use Rattle.saves.proofs.Once.{comparing-told}
+use Rattle.compare.proofs.SavesLaws.Once.{comparing-told}
 use Rattle.theorems.proofs.save_order.comparing_is_told.Goals as goal
 
 pub returns : goal.returns

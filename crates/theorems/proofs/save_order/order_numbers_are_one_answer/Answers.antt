@@ -1,5 +1,5 @@
 -- `theorems::save_order::order_numbers_are_one_answer` meets its contract.
-use Rattle.saves.proofs.Once.{order-once}
+use Rattle.compare.proofs.SavesLaws.Once.{order-once}
 use Rattle.theorems.proofs.save_order.order_numbers_are_one_answer.Goals as goal
 
 pub returns : goal.returns

@@ -1,5 +1,5 @@
 -- `theorems::save_order::swap_turns` meets its contract.
-use Rattle.saves.proofs.Orders.{swap-turns}
+use Rattle.compare.proofs.SavesLaws.Orders.{swap-turns}
 use Rattle.theorems.proofs.save_order.swap_turns.Goals as goal
 
 pub returns : goal.returns

@@ -1,5 +1,5 @@
 -- `theorems::table_trips::no_read_is_refused_by_0` meets its contract.
-use Rattle.table_reader.proofs.Once.{read-numbered}
+use Rattle.tables.proofs.ReaderLaws.Once.{read-numbered}
 use Rattle.theorems.proofs.table_trips.no_read_is_refused_by_0.Goals as goal
 
 pub returns : goal.returns

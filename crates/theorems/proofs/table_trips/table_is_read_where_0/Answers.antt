@@ -1,5 +1,5 @@
 -- `theorems::table_trips::table_is_read_where_0` meets its contract.
-use Rattle.table_reader.proofs.Once.{told-zero}
+use Rattle.tables.proofs.ReaderLaws.Once.{told-zero}
 use Rattle.theorems.proofs.table_trips.table_is_read_where_0.Goals as goal
 
 pub returns : goal.returns

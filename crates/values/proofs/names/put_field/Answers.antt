@@ -5,7 +5,7 @@ use native.Mathlib.Omega.{arith}
 use lib.ListN.{length}
 use Rattle.text.specs.Text.{decimal}
 use Rattle.values.specs.Values.{field_name}
-use Rattle.sheet.proofs.Sheets.{with_text-as}
+use Rattle.text.proofs.SheetLaws.Sheets.{with_text-as}
 use Rattle.values.proofs.names.put_field.Goals as goal
 
 none : (n : List ℕ) (i : ℕ) → length n ≡ 0 → decimal i ≡ field_name n i

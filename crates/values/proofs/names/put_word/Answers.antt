@@ -4,7 +4,7 @@ use mathlib.Core.Path.{◌≡◌, refl, sym, ap, ◌∙◌}
 use native.Mathlib.Omega.{arith}
 use lib.ListN.{length}
 use Rattle.values.specs.Values.{remark}
-use Rattle.sheet.proofs.Sheets.{with_text-none, with_text-as, byte-then}
+use Rattle.text.proofs.SheetLaws.Sheets.{with_text-none, with_text-as, byte-then}
 use Rattle.values.proofs.names.put_word.Goals as goal
 
 none : (w : List ℕ) → length w ≡ 0 → [] ≡ remark w

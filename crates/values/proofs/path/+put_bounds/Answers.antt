@@ -1,5 +1,5 @@
 use mathlib.Core.Path.{sym}
-use Rattle.sheet.proofs.Sheets.{with_text-none, with_text-as, and_then, byte-then}
+use Rattle.text.proofs.SheetLaws.Sheets.{with_text-none, with_text-as, and_then, byte-then}
 use Rattle.values.proofs.Indices.{bounds-none, bounds-one, bounds-more}
 use Rattle.values.proofs.path.+put_bounds.Goals as goal
 

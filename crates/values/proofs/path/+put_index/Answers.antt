@@ -1,6 +1,6 @@
 use mathlib.Core.Path.{sym}
 use native.Mathlib.Omega.{arith}
-use Rattle.sheet.proofs.Sheets.{with_text-none, with_text-as, and_then, byte-then}
+use Rattle.text.proofs.SheetLaws.Sheets.{with_text-none, with_text-as, and_then, byte-then}
 use Rattle.values.proofs.Indices.{index-none, index-one, index-more}
 use Rattle.values.proofs.path.+put_index.Goals as goal
 

@@ -1,7 +1,7 @@
 use mathlib.Core.Path.{sym}
 use Rattle.values.specs.Values.{field_path, element_path}
 use Rattle.values.specs.Inner.Paths.{path_text}
-use Rattle.sheet.proofs.Sheets.{with_text-none, and_then, byte-then, then-byte}
+use Rattle.text.proofs.SheetLaws.Sheets.{with_text-none, and_then, byte-then, then-byte}
 use Rattle.values.proofs.path.+put_path.Goals as goal
 
 pub returns-in-Object : goal.returns-in-Object

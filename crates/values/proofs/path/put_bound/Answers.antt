@@ -1,7 +1,7 @@
 use mathlib.Core.Path.{ap, ◌∙◌}
 use Rattle.values.specs.Values.{direction, bound_text}
-use Rattle.sheet.specs.Numbers.{signed_decimal}
-use Rattle.sheet.proofs.Sheets.{with_text-as, and_then}
+use Rattle.text.specs.Sheet.Numbers.{signed_decimal}
+use Rattle.text.proofs.SheetLaws.Sheets.{with_text-as, and_then}
 use Rattle.values.proofs.path.put_bound.Goals as goal
 
 pub returns : goal.returns

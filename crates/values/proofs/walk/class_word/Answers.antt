@@ -1,6 +1,6 @@
 use mathlib.Core.Path.{refl}
 use Rattle.text.specs.Text.{ascii}
-use Rattle.ty.specs.View.{read_entry}
+use Rattle.type_table.specs.Rows.View.{read_entry}
 use Rattle.values.specs.Values.{class_word}
 use Rattle.values.proofs.walk.class_word.Goals as goal
 

@@ -1,7 +1,7 @@
 use borrow.Author.Tests.{eq-eqb, ne_eqb}
 use Rattle.text.specs.Text.{ascii}
 use Rattle.values.specs.Values.{handle_remark}
-use Rattle.sheet.proofs.Sheets.{and_then}
+use Rattle.text.proofs.SheetLaws.Sheets.{and_then}
 use Rattle.values.proofs.walk.put_handle_remark.Goals as goal
 
 pub returns-then-h-eq0 : goal.returns-then-h-eq0

@@ -1,9 +1,9 @@
 use Prim.Native.Nat.{ℕ}
 use mathlib.Core.Path.{sym, ap}
-use Rattle.ty.specs.View.{read_entry}
+use Rattle.type_table.specs.Rows.View.{read_entry}
 use Rattle.values.specs.Values.{scalar_text}
-use Rattle.sheet.specs.Numbers.{signed_decimal}
-use Rattle.sheet.proofs.Sheets.{with_text-none, with_text-as, and_then}
+use Rattle.text.specs.Sheet.Numbers.{signed_decimal}
+use Rattle.text.proofs.SheetLaws.Sheets.{with_text-none, with_text-as, and_then}
 use Rattle.values.proofs.Scalars.{width-int}
 use Rattle.values.proofs.walk.put_value.Goals as goal
 

@@ -1,10 +1,10 @@
 -- `mark::queue::Queue::drain` meets its contract.
 use Prim.Native.Nat.{◌-◌}
-use Rattle.reach.specs.Marking.{drained}
+use Rattle.reachability.specs.Reach.Marking.{drained}
 use Rattle.mark.specs.Inner.Objects.{graph_of}
 use Rattle.mark.specs.Inner.Queues.{state}
 use Rattle.mark.proofs.QueueLoop.{Draining}
-use Rattle.ty.specs.Lent.{lent}
+use Rattle.type_table.specs.Rows.Lent.{lent}
 use Rattle.mark.proofs.queue.Queue.drain.Given as goal
 
 abbrev pub invariant-loop-next : goal.invariant-loop-next

@@ -1,4 +1,4 @@
-use Rattle.reach.specs.Marking.{pin_all}
+use Rattle.reachability.specs.Reach.Marking.{pin_all}
 use Rattle.mark.specs.Inner.Joining.{in_use}
 use Rattle.mark.proofs.States.{pushing-start}
 use Rattle.mark.proofs.Holding.{held_next, held-end}

@@ -1,5 +1,5 @@
 -- `Queue::hold_all` meets its contract.
-use Rattle.reach.specs.Marking.{pin_all}
+use Rattle.reachability.specs.Reach.Marking.{pin_all}
 use Rattle.mark.specs.Inner.Queues.{state}
 use Rattle.mark.specs.Inner.Joining.{in_use}
 use Rattle.mark.proofs.Holding.{HoldsAll}

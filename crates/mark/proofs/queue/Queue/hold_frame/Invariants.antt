@@ -1,8 +1,8 @@
 -- `mark::queue::Queue::hold_frame` meets its contract.
-use Rattle.addresses.specs.Listed.{slots_of}
-use Rattle.frame.specs.Frame.{entries_of}
-use Rattle.frame.specs.Inner.Words.{entries_words}
-use Rattle.reach.specs.Marking.{pin_all}
+use Rattle.collection.specs.Addresses.Listed.{slots_of}
+use Rattle.tracing.specs.Frame.Frame.{entries_of}
+use Rattle.tracing.specs.Frame.Inner.Words.{entries_words}
+use Rattle.reachability.specs.Reach.Marking.{pin_all}
 use Rattle.mark.specs.Inner.Queues.{state}
 use Rattle.mark.specs.Inner.Joining.{in_use}
 use Rattle.mark.proofs.Holding.{HoldsFrame}

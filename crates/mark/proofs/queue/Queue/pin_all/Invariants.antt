@@ -1,5 +1,5 @@
 -- `Queue::pin_all` meets its contract.
-use Rattle.reach.specs.Marking.{pin_all}
+use Rattle.reachability.specs.Reach.Marking.{pin_all}
 use Rattle.mark.specs.Inner.Objects.{lives}
 use Rattle.mark.specs.Inner.Queues.{state}
 use Rattle.mark.proofs.TracedIntoQueue.{Pins}

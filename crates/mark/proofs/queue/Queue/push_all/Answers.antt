@@ -1,5 +1,5 @@
 use mathlib.Core.Path.{refl}
-use Rattle.reach.specs.Marking.{follow_all}
+use Rattle.reachability.specs.Reach.Marking.{follow_all}
 use Rattle.mark.specs.Inner.Objects.{leads}
 use Rattle.mark.proofs.States.{pushing-start}
 use Rattle.mark.proofs.TracedIntoQueue.{pushes-next, pushes-end}

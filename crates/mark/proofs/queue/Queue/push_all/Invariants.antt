@@ -1,5 +1,5 @@
 -- `Queue::push_all` meets its contract.
-use Rattle.reach.specs.Marking.{follow_all}
+use Rattle.reachability.specs.Reach.Marking.{follow_all}
 use Rattle.mark.specs.Inner.Objects.{leads}
 use Rattle.mark.specs.Inner.Queues.{state}
 use Rattle.mark.proofs.TracedIntoQueue.{Pushes}

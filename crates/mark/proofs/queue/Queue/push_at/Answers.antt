@@ -1,6 +1,6 @@
 -- `Queue::push_at` meets its contract.
 use mathlib.Core.Path.{refl}
-use Rattle.trace.specs.Inner.Emit.{resolve_in}
+use Rattle.tracing.specs.Trace.Inner.Emit.{resolve_in}
 use Rattle.mark.proofs.States.{same-again}
 use Rattle.mark.proofs.ResolvedInside.{resolves-in}
 use Rattle.mark.proofs.TracedIntoQueue.{emit-noted}

@@ -1,6 +1,6 @@
 -- `mark::queue::Queue::seed_joined` meets its contract: step by step.
-use Rattle.frame.specs.Frame.{entries_of}
-use Rattle.frame.specs.Inner.Words.{entries_words}
+use Rattle.tracing.specs.Frame.Frame.{entries_of}
+use Rattle.tracing.specs.Frame.Inner.Words.{entries_words}
 use Rattle.mark.specs.Inner.Objects.{leads}
 use Rattle.mark.specs.Inner.Safepoints.{live_values}
 use Rattle.mark.proofs.FrameMarks.{joined-seeds}

@@ -1,6 +1,6 @@
 -- `page_check::page::Page::check_listed` meets its contract.
 use mathlib.Core.Path.{sym, ◌∙◌}
-use Rattle.page_parser.specs.Contents.{heap_in}
+use Rattle.page_check.specs.PageParser.Contents.{heap_in}
 use Rattle.page_check.proofs.Unlisted.{unlisted}
 use Rattle.page_check.proofs.page.Page.check_listed.Goals as goal
 

@@ -1,6 +1,6 @@
 use native.Mathlib.Omega.{arith}
 use lib.ListN.{length}
-use Rattle.page_parser.specs.Contents.{heap_in}
+use Rattle.page_check.specs.PageParser.Contents.{heap_in}
 use Rattle.page_check.specs.Inner.Rules.{listed}
 use Rattle.page_check.proofs.Rules.{run-wrong, run-told}
 use Rattle.page_check.proofs.page.Page.check_run.Goals as goal

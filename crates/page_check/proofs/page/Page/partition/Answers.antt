@@ -1,5 +1,5 @@
 use mathlib.Core.Path.{refl}
-use Rattle.page_parser.specs.Contents.{heap_in, form_in}
+use Rattle.page_check.specs.PageParser.Contents.{heap_in, form_in}
 use Rattle.page_check.proofs.Verdict.{parted-not, parted-before, parted-old, parted-all}
 use Rattle.page_check.proofs.page.Page.partition.Goals as goal
 

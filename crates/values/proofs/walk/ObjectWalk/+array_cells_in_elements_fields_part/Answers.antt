@@ -8,10 +8,10 @@ use mathlib.Core.Bool.{true, false}
 use borrow.Author.Tests.{eq-eqb, ne_eqb}
 use Rattle.std.specs.Prelude.{if◌then◌else◌}
 use Rattle.text.specs.Text.{ascii}
-use Rattle.ty.proofs.Ranges.{record-within, part-start, part_end}
+use Rattle.type_table.proofs.RowsLaws.Ranges.{record-within, part-start, part_end}
 use Rattle.values.specs.Inner.Paths.{path_text}
 use Rattle.values.specs.Inner.Walk.{elements_text, part_text}
-use Rattle.sheet.proofs.Sheets.{with_text-none, with_text-as, and_then, then-byte, done, turn}
+use Rattle.text.proofs.SheetLaws.Sheets.{with_text-none, with_text-as, and_then, then-byte, done, turn}
 use Rattle.values.proofs.Scalars.{head-line}
 use Rattle.values.proofs.Cells.{type-zero, type-missing, type-array, type-record, type-scalar, part-rest, part-none, part-some, array-none, array-logic, array-elements, array-fits, first-is, used-fits, rest-is, rest-under}
 use Rattle.values.proofs.Cells.{elements-none, elements-beyond, elements-next, fields_end, field-unlaid, field-unaligned, field-unended, field-beyond, field-next}

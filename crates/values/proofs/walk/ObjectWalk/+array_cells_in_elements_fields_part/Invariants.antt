@@ -1,7 +1,7 @@
 use Prim.Native.Nat.{◌+◌, ◌-◌, ◌*◌, ◌≤◌}
 use mathlib.Core.Path.{◌≡◌}
 use lib.ListN.{length}
-use Rattle.sheet.specs.Inner.Sheet.{sheet, with_text}
+use Rattle.text.specs.Sheet.Inner.Sheet.{sheet, with_text}
 use Rattle.values.specs.Inner.Paths.{path_text}
 use Rattle.values.specs.Inner.Walk.{elements_text, fields_rest, fields_text}
 use Rattle.values.proofs.walk.ObjectWalk.+array_cells_in_elements_fields_part.Given as goal

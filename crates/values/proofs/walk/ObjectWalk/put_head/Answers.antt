@@ -1,4 +1,4 @@
-use Rattle.sheet.proofs.Sheets.{and_then, byte-then, then-byte}
+use Rattle.text.proofs.SheetLaws.Sheets.{and_then, byte-then, then-byte}
 use Rattle.values.proofs.walk.ObjectWalk.put_head.Goals as goal
 
 pub returns : goal.returns

@@ -4,7 +4,7 @@ use mathlib.Core.Path.{◌≡◌, refl, sym, ap, ◌∙◌}
 use native.Mathlib.Omega.{arith}
 use Rattle.text.specs.Text.{ascii}
 use Rattle.values.specs.Values.{code_letter, code_at, codes_text, cell_text}
-use Rattle.sheet.proofs.Sheets.{with_text-one, with_text-as, and_then, then-byte, done, turn}
+use Rattle.text.proofs.SheetLaws.Sheets.{with_text-one, with_text-as, and_then, then-byte, done, turn}
 use Rattle.values.proofs.Scalars.{head-line}
 use Rattle.values.proofs.walk.ObjectWalk.put_logic.Goals as goal
 

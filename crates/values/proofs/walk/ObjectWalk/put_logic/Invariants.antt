@@ -1,7 +1,7 @@
 use Prim.Native.Nat.{◌-◌}
 use mathlib.Core.Path.{◌≡◌}
 use Rattle.values.specs.Values.{codes_text}
-use Rattle.sheet.specs.Inner.Sheet.{sheet, with_text}
+use Rattle.text.specs.Sheet.Inner.Sheet.{sheet, with_text}
 use Rattle.values.proofs.walk.ObjectWalk.put_logic.Given as goal
 
 abbrev pub invariant-loop-j : goal.invariant-loop-j

@@ -1,12 +1,12 @@
 use mathlib.Core.Path.{ap, ◌∙◌}
 use Prim.Native.Nat.{ℕ}
 use mathlib.Core.List.{List}
-use Rattle.ty.specs.Inner.Rows.{bare}
+use Rattle.type_table.specs.Rows.Inner.Rows.{bare}
 use Rattle.values.specs.Values.{cell_text, scalar_text, number_at}
 use Rattle.values.specs.Inner.Paths.{path_text}
 use Rattle.values.specs.Names.{word_at}
 use Rattle.values.specs.Inner.Walk.{head_text}
-use Rattle.sheet.proofs.Sheets.{with_text-as, and_then, then-byte}
+use Rattle.text.proofs.SheetLaws.Sheets.{with_text-as, and_then, then-byte}
 use Rattle.values.proofs.Scalars.{head-line}
 use Rattle.values.proofs.walk.ObjectWalk.put_scalar.Goals as goal
 

@@ -1,8 +1,0 @@
--- `code::check::blocks_apart` meets its contract.
-use Prim.Native.Nat.{◌/◌}
-use lib.ListN.{length}
-use Rattle.code.proofs.Marks.{Held}
-use Rattle.code.proofs.check.blocks_apart.Given as goal
-
-abbrev pub invariant-loop-start : goal.invariant-loop-start
-invariant-loop-start l = Held l.blocks l.marks (length l.blocks / 2) l.start-index

@@ -1,6 +1,0 @@
--- `code::check::mark_block` meets its contract.
-use Rattle.code.proofs.Marks.{Marking}
-use Rattle.code.proofs.check.mark_block.Given as goal
-
-abbrev pub invariant-loop-p : goal.invariant-loop-p
-invariant-loop-p l = Marking l.initial.marks l.marks l.from l.to l.p

@@ -1,8 +1,0 @@
--- `fields::Fields::byte` meets its contract.
-use native.Mathlib.Omega.{arith}
-use mathlib.Core.Path.{sym, ◌∙◌}
-use Rattle.protocol.proofs.Parting.{number-bound}
-use Rattle.fields.proofs.Fields.byte.Goals as goal
-
-pub overflow_cast-result : goal.overflow_cast-result
-overflow_cast-result c = record { fits = omega (arith, number-bound _ 255 _ (sym c.in_ok-x.was ∙ c.number.ensures.value)) }

@@ -1,7 +1,0 @@
--- `figures::count` meets its contract. The invariant: what is counted and what is left give the figures of all.
-use Rattle.heap.specs.Lent.{lent, view}
-use Rattle.figures.proofs.Counting.{Counted}
-use Rattle.figures.proofs.count.Given as goal
-
-abbrev pub invariant-loop-i : goal.invariant-loop-i
-invariant-loop-i l = Counted (view (lent l.fn.heap l.fn.narrow l.fn.wide l.fn.pool)).slots l.from l.i l.figures

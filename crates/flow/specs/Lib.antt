@@ -1,4 +1,0 @@
--- The definitions of the live map: functions, walks and live registers (Function), and the dataflow for one register (Dataflow).
-pub mod Function
-pub mod Dataflow
-pub mod Inner

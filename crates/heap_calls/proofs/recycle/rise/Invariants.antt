@@ -1,6 +1,0 @@
--- `heap_calls::recycle::rise` meets its contract. The invariant: all pins rise exactly if those left do.
-use Rattle.heap_calls.proofs.Rising.{Rising}
-use Rattle.heap_calls.proofs.recycle.rise.Given as goal
-
-abbrev pub invariant-loop-pin : goal.invariant-loop-pin
-invariant-loop-pin l = Rising l.pins l.pin-index l.from

@@ -1,7 +1,0 @@
--- `heap_door::yexwalu_gc_due` meets its contract.
-use Rattle.std.proofs.Common.{rules}
-use Rattle.door.proofs.Entering.{ask-through}
-use Rattle.heap_door.proofs.yexwalu_gc_due.Goals as goal
-
-pub returns : goal.returns
-returns c = ask-through _ c.see.result c.and_then.result _ c.see.ensures.entered c.see.ensures.shows c.and_then.ensures _ _ _ (λ v p. search rules) c.from.ensures

@@ -1,0 +1,3 @@
+pub mod HeapCallsLaws
+pub mod HeapEditLaws
+pub mod PlacingLaws

@@ -1,0 +1,3 @@
+pub mod HeapCalls
+pub mod HeapEdit
+pub mod Placing

@@ -1,6 +1,0 @@
--- `held_figures::yexwalu_held_figures_and` meets its contract.
-use Rattle.figures.proofs.Totals.{figures-same}
-use Rattle.held_figures.proofs.yexwalu_held_figures_and.Goals as goal
-
-pub returns : goal.returns
-returns c = figures-same _ _ c.saturating_add.ensures c.saturating_add-2.ensures c.max.ensures

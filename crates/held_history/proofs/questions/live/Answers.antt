@@ -1,9 +1,0 @@
--- `held_history::questions::live` meets its contract.
-use Rattle.word.specs.Result.{ok}
-use Rattle.refusal.specs.Told.{here, nothing}
-use Rattle.heap.specs.Calls.{live_count}
-use Rattle.held_history.proofs.Checks.{matches-question}
-use Rattle.held_history.proofs.questions.live.Goals as goal
-
-pub returns : goal.returns
-returns c = matches-question here nothing (λ h. ok (live_count h.slots)) c.requires c.yexwalu_held_live.ensures

@@ -1,6 +1,0 @@
--- `held_reads::yexwalu_held_traceable` meets its contract.
-use Rattle.held_reads.proofs.Reading.{fits}
-use Rattle.held_reads.proofs.yexwalu_held_traceable.Goals as goal
-
-pub returns : goal.returns
-returns c = fits _ c.see-view.result c.see-view.ensures _ c.find_misfit.ensures c.from.ensures

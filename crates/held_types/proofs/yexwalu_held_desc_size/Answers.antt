@@ -1,6 +1,0 @@
--- `held_types::yexwalu_held_desc_size` meets its contract.
-use Rattle.held_types.proofs.Telling.{size-exact}
-use Rattle.held_types.proofs.yexwalu_held_desc_size.Goals as goal
-
-pub returns : goal.returns
-returns c = size-exact _ _ c.args.consts.now c.args.bytes.now _ c.requires c.tell_size.ensures

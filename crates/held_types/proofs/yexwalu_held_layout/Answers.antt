@@ -1,6 +1,0 @@
--- `held_types::yexwalu_held_layout` meets its contract.
-use Rattle.held_types.proofs.Telling.{lays}
-use Rattle.held_types.proofs.yexwalu_held_layout.Goals as goal
-
-pub returns : goal.returns
-returns c = let p = lays _ _ c.from.ensures c.lay_out.ensures.answer c.lay_out.ensures.written in record { answer = p.0; written = p.1 }

@@ -1,0 +1,10 @@
+-- `held_history::questions::gc_due` meets its contract.
+use Rattle.word.specs.Result.{ok}
+use Rattle.refusal.specs.Told.{nothing}
+use Rattle.heap.specs.State.{bit}
+use Rattle.heap.specs.Calls.{gc_due}
+use Rattle.histories.proofs.HeldHistoryLaws.Checks.{matches-question}
+use Rattle.histories.proofs.held_history.questions.gc_due.Goals as goal
+
+pub returns : goal.returns
+returns c = matches-question bit nothing (λ h. ok (gc_due h c.args.threshold)) c.requires c.yexwalu_held_gc_due.ensures

@@ -1,0 +1,14 @@
+-- `history_calls::same` meets its contract.
+use mathlib.Core.Path.{sym, subst}
+use Rattle.heap.specs.Lent.{lent}
+use Rattle.compare.specs.Saves.Saves.{words_of, save_of, same_number}
+use Rattle.histories.specs.Questions.{AsksBoth}
+use Rattle.histories.proofs.Doing.{comparisons-are-calls}
+use Rattle.histories.proofs.history_calls.same.Goals as goal
+
+pub returns : goal.returns
+returns c =
+    let w = words_of c.args.types.now c.args.fields.now c.args.consts.now c.args.bytes.now in
+    let s = save_of (lent c.args.heap c.args.narrow.now c.args.wide.now c.args.pool.now) c.args.roots.now c.args.marks.now c.args.work.now in
+    let t = save_of (lent c.args.other c.args.other_narrow.now c.args.other_wide.now c.args.other_pool.now) c.args.other_roots.now c.args.other_marks.now c.args.other_work.now in
+    subst (AsksBoth same_number w s t) (sym c.yexwalu_same.ensures.other_work_after) (comparisons-are-calls w s t).0

@@ -1,0 +1,7 @@
+-- `transfer::kill_row` meets its contract.
+use Rattle.control_flow.specs.Code.Inner.Columns.{wanted}
+use Rattle.liveness.proofs.TransferLaws.Turns.{Kills}
+use Rattle.liveness.proofs.transfer.kill_row.Given as goal
+
+abbrev pub invariant-loop-p : goal.invariant-loop-p
+invariant-loop-p l = Kills (wanted l.registers.which) l.registers.ends.now l.registers.refs.now l.registers.classes.now l.from l.to l.initial.row l.row l.p

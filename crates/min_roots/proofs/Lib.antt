@@ -1,0 +1,2 @@
+pub mod WantedLaws
+pub mod ChoosingLaws

@@ -1,7 +1,0 @@
--- `page_door::yexwalu_page_length` meets its contract.
-use Rattle.std.proofs.Common.{rules}
-use Rattle.door.proofs.Entering.{ask-through}
-use Rattle.page_door.proofs.yexwalu_page_length.Goals as goal
-
-pub returns : goal.returns
-returns c = ask-through _ c.see.result c.and_then.result _ c.see.ensures.entered c.see.ensures.shows c.and_then.ensures _ _ _ (λ v p. search rules) c.from.ensures

@@ -1,0 +1,2 @@
+pub mod PagesLaws
+pub mod WidthsLaws

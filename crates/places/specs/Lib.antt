@@ -1,3 +1,0 @@
--- Theorems of handle places: what is claimed.
-pub mod StrideZero
-pub mod PlacesRise

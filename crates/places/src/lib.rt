@@ -1,4 +1,0 @@
-// Theorems of handle places (SCOPE, "Traced handles"): each statement stands in specs/, its proof
-// in proofs/. This crate has no code.
-
-#![tactic(auto)]

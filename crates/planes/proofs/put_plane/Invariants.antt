@@ -1,6 +1,0 @@
-use Rattle.std.proofs.Common.{◌-◌}
-use Rattle.planes.proofs.Turns.{Planing}
-use Rattle.planes.proofs.put_plane.Given as goal
-
-abbrev pub invariant-loop-i : goal.invariant-loop-i
-invariant-loop-i l = Planing l.initial.out l.out l.at l.k l.n l.object l.j l.i

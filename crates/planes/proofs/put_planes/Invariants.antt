@@ -1,6 +1,0 @@
-use Rattle.std.proofs.Common.{◌-◌}
-use Rattle.planes.proofs.Turns.{Column}
-use Rattle.planes.proofs.put_planes.Given as goal
-
-abbrev pub invariant-loop-j : goal.invariant-loop-j
-invariant-loop-j l = Column l.initial.out l.out l.at l.k l.n l.object l.j

@@ -1,0 +1,7 @@
+pub mod LinesLaws
+pub mod NamesLaws
+pub mod PlaceLaws
+pub mod StepsLaws
+pub mod StoreLaws
+pub mod LineLaws
+pub mod RunsLaws

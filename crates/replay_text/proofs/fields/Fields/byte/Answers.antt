@@ -1,0 +1,8 @@
+-- `fields::Fields::byte` meets its contract.
+use native.Mathlib.Omega.{arith}
+use mathlib.Core.Path.{sym, ◌∙◌}
+use Rattle.replay_text.proofs.ProtocolLaws.Parting.{number-bound}
+use Rattle.replay_text.proofs.fields.Fields.byte.Goals as goal
+
+pub overflow_cast-result : goal.overflow_cast-result
+overflow_cast-result c = record { fits = omega (arith, number-bound _ 255 _ (sym c.in_ok-x.was ∙ c.number.ensures.value)) }

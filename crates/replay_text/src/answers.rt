@@ -1,0 +1,91 @@
+// Answers of a script's lines, for the program `replay`, each written to standard output.
+
+ghost use Rattle.std.specs.Prelude.{◌≡◌, map, take, OnOk, Ok};
+ghost use Rattle.replay_text.specs.Answers.Inner.Folding.{folded};
+
+use refusal::Answer;
+use std::fmt::{self, Display};
+use std::io;
+
+/// Entries with commas between them; `-` for none.
+#[derive(Drop)]
+pub struct List<'a, T>(pub &'a [T]);
+
+impl<'a, T: Display> Display for List<'a, T> {
+    fn fmt<W: fmt::Write>(&self, f: &mut fmt::Formatter<W>) -> fmt::Result {
+        let Some((first, rest)) = self.0.split_first() else {
+            return write!(f, "-");
+        };
+        write!(f, "{first}")?;
+        for x in rest {
+            write!(f, ",{x}")?;
+        }
+        Ok(())
+    }
+}
+
+/// Bytes in hexadecimal; `-` for none.
+#[derive(Clone, Copy)]
+pub struct Hex<'a>(pub &'a [u8]);
+
+impl<'a> Display for Hex<'a> {
+    fn fmt<W: fmt::Write>(&self, f: &mut fmt::Formatter<W>) -> fmt::Result {
+        if self.0.is_empty() {
+            return write!(f, "-");
+        }
+        for b in self.0 {
+            write!(f, "{b:02x}")?;
+        }
+        Ok(())
+    }
+}
+
+/// The first `count` entries of a list, as many as there are.
+pub fn front<T>(s: &[T], count: u64) -> &[T]
+    ensures { result.now ≡ take count s.now }
+{
+    s.get(..count as usize).unwrap_or(s)
+}
+
+/// An answer's line: the number of a refusal alone, else 0 and what `put` writes of its two values.
+pub fn put_told<F: FnOnce(u64, u64) -> io::Result<()>>(
+    rt: &impl Print,
+    a: Answer,
+    put: F,
+) -> io::Result<()>
+    requires { F.IsAlwaysCallable put }
+    ensures { OnOk result (a.number ≡ 0 → F.post put a.first a.second (Ok tt)) }
+{
+    print!(rt; "{}", a.number)?;
+    if a.number == 0 {
+        put(a.first, a.second)?;
+    }
+    println!(rt; "")
+}
+
+/// The same with so many of its values.
+pub fn put_answer(rt: &impl Print, a: Answer, values: usize) -> io::Result<()> {
+    put_told(rt, a, |x, y| match values {
+        0 => Ok(()),
+        1 => print!(rt; " {x}"),
+        _ => print!(rt; " {x} {y}"),
+    })
+}
+
+// A page's byte, with `;` for byte 10.
+fn folded(b: u8) -> u8
+    ensures { result ≡ folded b }
+{
+    if b == b'\n' { b';' } else { b }
+}
+
+/// A space, then the first `length` bytes of a page on one line. The page's bytes are changed, and the clause says to which; what is written no clause can name.
+pub fn put_page(rt: &impl Print, page: &mut [u8], length: u64) -> io::Result<()>
+    ensures { page.new ≡ map folded page.old }
+{
+    for b in page.iter_mut() {
+        *b = folded(*b);
+    }
+    print!(rt; " ")?;
+    rt.write_all(front(page, length))
+}

@@ -1,7 +1,0 @@
--- `root_map::count_map` meets its contract.
-use Rattle.code.specs.Inner.Columns.{wanted}
-use Rattle.root_map.proofs.Maps.{Counting}
-use Rattle.root_map.proofs.count_map.Given as goal
-
-abbrev pub invariant-loop-pc : goal.invariant-loop-pc
-invariant-loop-pc l = Counting (wanted l.walk.plan.flow.registers.which) l.walk.plan.flow.kinds.now l.walk.plan.flow.registers.ends.now l.walk.plan.flow.registers.refs.now l.walk.plan.flow.blocks.bounds.now l.walk.plan.flow.registers.classes.now l.walk.plan.flow.words l.walk.plan.flow.blocks.count l.initial.s l.s l.pc l.points l.registers l.b l.q

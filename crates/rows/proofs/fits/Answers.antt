@@ -1,8 +1,0 @@
--- `rows::fits` meets its contract.
-use native.Mathlib.Omega.{arith}
-use mathlib.Core.Path.{sym}
-use borrow.Author.Tests.{le-leb}
-use Rattle.rows.proofs.fits.Goals as goal
-
-pub returns-then-most-room : goal.returns-then-most-room
-returns-then-most-room c = sym (le-leb _ _ (omega (arith, c.requires.1, c.if-most-room.true)))

@@ -1,5 +1,0 @@
-pub mod Answering
-pub mod Placing
-pub mod Moving
-pub mod Looping
-pub mod Admitting

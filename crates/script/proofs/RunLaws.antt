@@ -1,0 +1,4 @@
+pub mod Answering
+pub mod Placing
+pub mod Moving
+pub mod Looping

@@ -1,4 +1,0 @@
-use Rattle.sheet.proofs.+word_digits.Given as goal
-
-abbrev pub decreases-word_digits : goal.decreases-word_digits
-decreases-word_digits l = l.count

@@ -1,8 +1,0 @@
-use mathlib.Core.Path.{◌≡◌}
-use lib.ListN.{drop}
-use Rattle.text.specs.Text.{hex}
-use Rattle.sheet.specs.Inner.Sheet.{sheet, with_text}
-use Rattle.sheet.proofs.hex.Given as goal
-
-abbrev pub invariant-loop-b : goal.invariant-loop-b
-invariant-loop-b l = with_text (sheet l.out l.n) (hex (drop l.b-index l.bytes)) ≡ with_text (sheet l.initial.out l.at) (hex l.bytes)

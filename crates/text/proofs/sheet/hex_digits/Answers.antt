@@ -1,0 +1,12 @@
+use Prim.Native.Nat.{ℕ, ◌+◌, ◌-◌, ◌^◌, min}
+use mathlib.Core.Path.{sym, ap, ◌∙◌}
+use native.Mathlib.Omega.{arith}
+use Rattle.text.specs.Sheet.Numbers.{hex_digits}
+use Rattle.text.specs.Sheet.Inner.Sheet.{sheet}
+use Rattle.text.proofs.SheetLaws.Sheets.{with_text-past, length-hex_digits}
+use Rattle.text.proofs.sheet.hex_digits.Goals as goal
+
+pub returns-then-out-at : goal.returns-then-out-at
+returns-then-out-at c =
+    ap (λ (n : ℕ). sheet c.args.out.now n) (c.saturating_add.ensures ∙ ap (λ (k : ℕ). min (c.args.at + k) (2 ^ 64 - 1)) (sym (length-hex_digits c.args.count c.args.x)))
+    ∙ sym (with_text-past c.args.out.now c.args.at (hex_digits c.args.count c.args.x) c.if-out-at.true (omega (arith, c.well_formed)))

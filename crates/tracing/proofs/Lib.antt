@@ -1,0 +1,5 @@
+pub mod BesideLaws
+pub mod TraceLaws
+pub mod TracedLaws
+pub mod PlacesLaws
+pub mod FrameLaws

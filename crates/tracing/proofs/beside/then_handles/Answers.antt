@@ -1,0 +1,9 @@
+-- `beside::then_handles` meets its contract.
+use Rattle.tracing.proofs.BesideLaws.Codings.{then_found, then-first}
+use Rattle.tracing.proofs.beside.then_handles.Goals as goal
+
+pub returns-then-found-ne0 : goal.returns-then-found-ne0
+returns-then-found-ne0 c = search then_found
+
+pub returns : goal.returns
+returns c = search then-first

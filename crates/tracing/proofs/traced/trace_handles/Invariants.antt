@@ -1,0 +1,12 @@
+-- `traced::trace_handles` meets its contract. The invariant: of the handles, those from the i-th on are still to come.
+use Prim.Native.Nat.{◌+◌, ◌-◌, ◌*◌, ◌/◌}
+use mathlib.Core.Path.{◌≡◌}
+use lib.ListN.{length}
+use Rattle.tracing.specs.Trace.Places.{handles_places, eight_apart}
+use Rattle.tracing.specs.Trace.Inner.Emit.{raw_of, handed_all, words_to, into, slots_resolve}
+use Rattle.tracing.proofs.traced.trace_handles.Given as goal
+
+abbrev pub invariant-loop-i : goal.invariant-loop-i
+invariant-loop-i l = (handed_all (words_to (into l.sink (slots_resolve l.here))) l.«data» (raw_of l.marks l.to l.m) (eight_apart (l.count - l.i) (24 + 8 * l.i))
+    ≡ handed_all (words_to (into l.sink (slots_resolve l.here))) l.«data» (raw_of l.initial.marks l.initial.to l.n) (handles_places (length l.«data»)))
+    × (l.count ≡ (length l.«data» - 24) / 8)

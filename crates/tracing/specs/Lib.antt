@@ -1,0 +1,5 @@
+pub mod Beside
+pub mod Trace
+pub mod Traced
+pub mod Places
+pub mod Frame

@@ -1,7 +1,0 @@
--- `transfer::back_row` meets its contract.
-use Rattle.code.specs.Inner.Columns.{wanted}
-use Rattle.transfer.proofs.Turns.{Backs}
-use Rattle.transfer.proofs.back_row.Given as goal
-
-abbrev pub invariant-loop-p : goal.invariant-loop-p
-invariant-loop-p l = Backs (wanted l.registers.which) l.registers.ends.now l.registers.refs.now l.registers.classes.now l.from l.to l.initial.row l.row l.p

@@ -1,6 +1,0 @@
--- `ty_check::sum_before` meets its contract.
-use Rattle.ty_check.proofs.CountLaws.{sum-at}
-use Rattle.ty_check.proofs.sum_before.Goals as goal
-
-pub returns-else-n-eq0 : goal.returns-else-n-eq0
-returns-else-n-eq0 c = sum-at c.args.sums.now c.args.n c.if-n-eq0.false

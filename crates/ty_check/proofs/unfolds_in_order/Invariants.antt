@@ -1,9 +1,0 @@
--- `ty_check::unfolds_in_order` meets its contract.
-use Prim.Native.Nat.{◌/◌}
-use lib.ListN.{length}
-use Rattle.ty.specs.View.{types_of}
-use Rattle.ty_check.proofs.BoundLaws.{Bounded}
-use Rattle.ty_check.proofs.unfolds_in_order.Given as goal
-
-abbrev pub invariant-loop-i : goal.invariant-loop-i
-invariant-loop-i l = Bounded (types_of l.table.types.now l.table.fields.now) (length l.table.types.now / 4) l.initial.counts l.counts l.i

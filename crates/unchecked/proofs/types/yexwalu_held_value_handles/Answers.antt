@@ -1,0 +1,6 @@
+-- `held_types::yexwalu_held_value_handles` meets its contract.
+use Rattle.unchecked.proofs.TypesLaws.Telling.{lists}
+use Rattle.unchecked.proofs.types.yexwalu_held_value_handles.Goals as goal
+
+pub returns : goal.returns
+returns c = let p = lists c.list_value.ensures c.from.ensures in record { answer = p.0; written = p.1 }

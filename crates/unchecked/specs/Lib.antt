@@ -1,0 +1,4 @@
+pub mod Objects
+pub mod Collections
+pub mod Saves
+pub mod Figures

@@ -1,0 +1,2 @@
+pub mod HeapCheckLaws
+pub mod DoorLaws

@@ -1,0 +1,2 @@
+pub mod HeapCheck
+pub mod Door

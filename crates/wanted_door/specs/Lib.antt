@@ -1,4 +1,0 @@
--- The definitions that the public contract cites, and those that only inner contracts do.
-pub mod RootsFor
-pub mod CollectWanted
-pub mod Inner

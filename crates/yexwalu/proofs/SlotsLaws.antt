@@ -1,0 +1,4 @@
+-- What the proofs of several calls use.
+pub mod SlotCalls
+pub mod TraceCalls
+pub mod Once

@@ -1,0 +1,15 @@
+-- `object_door::yexwalu_free` meets its contract.
+use Rattle.std.proofs.Common.{rules}
+use Rattle.refusal.specs.Told.{nothing}
+use Rattle.heap.specs.Lent.{lent}
+use Rattle.validate.proofs.DoorLaws.Entering.{entered, call-refused, call-ready}
+use Rattle.yexwalu.proofs.objects.yexwalu_free.Goals as goal
+
+pub invariant_of-lent : goal.invariant_of-lent
+invariant_of-lent c = record { formed = entered (lent c.args.heap c.args.narrow.now c.args.wide.now c.args.pool.now) c.enter.ensures c.in-Ok.is }
+
+pub returns-in-Err : goal.returns-in-Err
+returns-in-Err c = call-refused c.enter.ensures nothing nothing _ c.in-Err.is c.from.ensures
+
+pub returns-in-Ok : goal.returns-in-Ok
+returns-in-Ok c = call-ready c.enter.ensures nothing nothing _ c.in-Ok.is (record { leaves = search rules; says = c.free-reply.ensures.tells.says }) c.from-in-Ok.ensures

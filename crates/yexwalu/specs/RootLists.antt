@@ -1,0 +1,3 @@
+-- The definitions that the public contract cites, and those that only inner contracts do.
+pub mod RootsFor
+pub mod CollectWanted

@@ -1,0 +1,2 @@
+-- The definitions that the public contract cites.
+pub mod Run
