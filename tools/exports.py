@@ -16,6 +16,7 @@ CRATE = "yexwalu_c"
 # the module of the exports, the file whose public calls it has
 FILES = [
     ("heaps", "yexwalu/src/questions.rt"),
+    ("changes", "yexwalu/src/changes.rt"),
     ("objects", "yexwalu/src/objects.rt"),
     ("collections", "yexwalu/src/collections.rt"),
     ("collections_joined", "yexwalu/src/collections/joined.rt"),

@@ -27,7 +27,7 @@ use native.Mathlib.Omega.{arith}
 use borrow.Author.Tests.{ne_eqb}
 use Rattle.yexwalu.specs.Objects.ObjectCalls.{take_call}
 use Rattle.heap_ops.specs.Placing.Calls.{allocating, recycling}
-use Rattle.yexwalu.specs.Questions.Sealing.{sealing}
+use Rattle.yexwalu.specs.Changes.Sealing.{sealing}
 use Rattle.yexwalu.specs.Collections.Calls.{table_in, tests, Asked, table, frame, pinning, joined_tests, joining}
 use Rattle.tracing.specs.Traced.Listing.{written_to}
 use Rattle.collection.specs.Shown.{shown}

@@ -12,7 +12,7 @@ use Rattle.collection.specs.Joined.{values_of, root_registers, pins_at}
 use Rattle.validate.specs.Door.HeapCalls.{Test, admitted, whether, heap_tests, Outcome, outcome_of, heap_call, Asked as Reply, asking as replying}
 use Rattle.yexwalu.specs.Objects.ObjectCalls.{take_call}
 use Rattle.heap_ops.specs.Placing.Calls.{allocating, recycling}
-use Rattle.yexwalu.specs.Questions.Sealing.{sealing}
+use Rattle.yexwalu.specs.Changes.Sealing.{sealing}
 use Rattle.yexwalu.specs.Collections.Calls.{Given, table_in, tests, collect_call, Asked, table, frame, pinning, joined_tests, joined_call}
 use Rattle.yexwalu.specs.RootLists.RootsFor.{Given as Wanting, table_in as wanting_table, tests as wanting_tests}
 use Rattle.min_roots.specs.Choosing.Handles.{root_handles}

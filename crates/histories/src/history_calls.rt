@@ -17,7 +17,7 @@ ghost use Rattle.compare.specs.Saves.Saves.{words_of, save_of, same_number, orde
 use heap::Heap;
 use refusal::Answer;
 use validate::door::Done;
-use yexwalu::{collections, objects, questions, root_lists, saves, scripts};
+use yexwalu::{changes, collections, objects, root_lists, saves, scripts};
 
 pub fn alloc_from(
     heap: Heap,
@@ -69,7 +69,7 @@ pub fn reissue(
     ensures { outcome result.answer (lent result.heap narrow.new wide.new pool.now) marks.new work.new
         ≡ contract (lending marks.old work.old) (reissued i grown) (lent heap narrow.old wide.old pool.now) }
 {
-    questions::yexwalu_reissue(heap, narrow, wide, pool, i, grown, marks, work)
+    changes::yexwalu_reissue(heap, narrow, wide, pool, i, grown, marks, work)
 }
 
 pub fn edit(
@@ -86,7 +86,7 @@ pub fn edit(
     ensures { outcome result.answer (lent result.heap narrow.new wide.new pool.new) marks.new work.new
         ≡ contract (lending marks.old work.old) (edited handle bytes.now start) (lent heap narrow.old wide.old pool.old) }
 {
-    questions::yexwalu_edit(heap, narrow, wide, pool, handle, bytes, start, marks, work)
+    changes::yexwalu_edit(heap, narrow, wide, pool, handle, bytes, start, marks, work)
 }
 
 pub fn write(
@@ -103,7 +103,7 @@ pub fn write(
     ensures { outcome result (lent heap narrow.now wide.new pool.new) marks.new work.new
         ≡ contract (lending marks.old work.old) (written i offset bytes.now) (lent heap narrow.now wide.old pool.old) }
 {
-    questions::yexwalu_write(heap, narrow, wide, pool, i, offset, bytes, marks, work)
+    changes::yexwalu_write(heap, narrow, wide, pool, i, offset, bytes, marks, work)
 }
 
 pub fn take(
@@ -163,7 +163,7 @@ pub fn seal(
     ensures { outcome result.answer (lent result.heap narrow.now wide.new pool.now) marks.new work.new
         ≡ contract (lending marks.old work.old) (sealed) (lent heap narrow.now wide.old pool.now) }
 {
-    questions::yexwalu_seal(heap, narrow, wide, pool, marks, work)
+    changes::yexwalu_seal(heap, narrow, wide, pool, marks, work)
 }
 
 pub fn collect(

@@ -8,3 +8,4 @@ pub mod RowPushes
 pub mod FrameMarks
 pub mod HeapMarked
 pub mod Holding
+pub mod SlotsLaws

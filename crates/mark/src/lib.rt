@@ -23,6 +23,7 @@ use type_table::rows::Table;
 pub mod hold; // what is pinned, by pins and by addresses
 pub mod joined; // the marking of a joined collection
 pub mod queue; // the scratch, lent to be changed
+pub mod slots; // the handles that a slot shows, and the first slot that does not fit a type table
 mod objects; // what of a heap is traced
 mod registers; // what a joined collection gets of a safepoint
 

@@ -8,7 +8,7 @@ ghost use Rattle.heap.specs.Lent.{view};
 ghost use Rattle.heap.specs.WellFormed.{well_formed};
 ghost use Rattle.heap.specs.Calls.{gc_due, reclaim_due, has_quarantine, is_plain, live_count, Place, place_at, Kind, kind_at, Stamp, stamp_at};
 ghost use Rattle.heap.specs.Calls.{resolve as resolved, edit as edited, write as written, reissue as reissued, free as freed};
-ghost use Rattle.yexwalu.specs.Questions.Sealing.{sealing};
+ghost use Rattle.yexwalu.specs.Changes.Sealing.{sealing};
 ghost use Rattle.unchecked.specs.Objects.Held.{in_place, Held};
 
 use crate::objects;

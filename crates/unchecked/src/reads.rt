@@ -12,10 +12,11 @@ ghost use Rattle.page_format.specs.Pages.Answer.{text_answer, text_out};
 ghost use Rattle.unchecked.specs.Objects.Held.{in_place};
 ghost use Rattle.type_table.specs.Rows.View.{table_of};
 ghost use Rattle.tracing.specs.Traced.Listing.{written_to};
-ghost use Rattle.yexwalu.specs.Slots.SlotHandles.{slot_handles};
+ghost use Rattle.mark.specs.Slots.SlotHandles.{slot_handles};
 ghost use Rattle.yexwalu.specs.Slots.Traceable.{fit_number, misfit_number, fitting};
 
 use crate::objects::see;
+use mark::slots::list_slot;
 use page_format::pages;
 use refusal::Answer;
 use type_table::check::check_table;
@@ -53,7 +54,7 @@ pub fn yexwalu_held_slot_handles(
         bytes,
     };
     let view = see(tag, numbers, log, lengths, narrow, wide, pool);
-    Answer::from(slots::list_slot(&table, view, slot, out))
+    Answer::from(list_slot(&table, view, slot, out))
 }
 
 // Do the heap and a type table fit together: has every object of kind Typed a type of the table, and

@@ -4,7 +4,7 @@ pub mod Types
 pub mod Handles
 pub mod Live
 pub mod RightLive
-pub mod Questions
+pub mod Changes
 pub mod Objects
 pub mod Pages
 pub mod Collections

@@ -2,4 +2,3 @@
 pub mod SlotHandles
 pub mod Traceable
 pub mod Once
-pub mod Inner

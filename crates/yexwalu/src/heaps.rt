@@ -7,16 +7,16 @@ ghost use Rattle.validate.specs.Door.HeapCalls.{outcome, heap_call};
 ghost use Rattle.yexwalu.specs.Collections.Calls.{collect_call};
 ghost use Rattle.yexwalu.specs.Collections.Demand.{RightlyCollected};
 
+pub use crate::changes::{yexwalu_edit as edit, yexwalu_reissue as reissue, yexwalu_seal as seal};
 pub use crate::collections::joined::yexwalu_collect_joined as collect_joined;
 pub use crate::objects::{
     yexwalu_alloc as alloc, yexwalu_alloc_from as alloc_from, yexwalu_free as free,
     yexwalu_new as new, yexwalu_recycle as recycle, yexwalu_take as take,
 };
 pub use crate::questions::{
-    yexwalu_data as data, yexwalu_edit as edit, yexwalu_gc_due as gc_due,
-    yexwalu_has_quarantine as has_quarantine, yexwalu_is_plain as is_plain, yexwalu_kind as kind,
-    yexwalu_live as live, yexwalu_reclaim_due as reclaim_due, yexwalu_reissue as reissue,
-    yexwalu_resolve as resolve, yexwalu_seal as seal, yexwalu_slots as slots,
+    yexwalu_data as data, yexwalu_gc_due as gc_due, yexwalu_has_quarantine as has_quarantine,
+    yexwalu_is_plain as is_plain, yexwalu_kind as kind, yexwalu_live as live,
+    yexwalu_reclaim_due as reclaim_due, yexwalu_resolve as resolve, yexwalu_slots as slots,
     yexwalu_stamp as stamp,
 };
 pub use crate::rehearsals::yexwalu_rehearse as rehearse;
@@ -24,7 +24,7 @@ pub use crate::root_lists::collecting::yexwalu_collect_wanted as collect_wanted;
 pub use crate::root_lists::yexwalu_roots_for as roots_for;
 pub use crate::saves::{yexwalu_order as order, yexwalu_same as same};
 pub use crate::scripts::yexwalu_run as run;
-use crate::{collections, questions};
+use crate::{changes, collections};
 use heap::Heap;
 use refusal::Answer;
 use validate::door::Done;
@@ -45,7 +45,7 @@ pub fn write(
         ≡ heap_call nothing nothing marks.old work.old (lent heap narrow.now wide.old pool.old)
         (λ h. written h i at bytes.now) }
 {
-    questions::yexwalu_write(heap, narrow, wide, pool, i, at, bytes, marks, work)
+    changes::yexwalu_write(heap, narrow, wide, pool, i, at, bytes, marks, work)
 }
 
 // `yexwalu_collect` under its short name. An import can't rename it so, since a crate is called `collect`.

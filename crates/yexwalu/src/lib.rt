@@ -11,10 +11,11 @@ pub mod live; // the registers that are roots at a safepoint
 pub mod heaps; // every call on a heap
 pub mod page; // a heap as text, and back
 pub mod table_text; // a type table as text, and back
+pub mod changes; // `edit`, `write`, `reissue`, `seal`
 pub mod collections; // `collect`, `collect_joined`
 pub mod objects; // `new`, `alloc_from`, `alloc`, `take`, `free`, `recycle`
 pub mod pages; // `page_length`, `write_page`, `read_page`
-pub mod questions; // what a heap is asked; `edit`, `write`, `reissue`, `seal`
+pub mod questions; // what a heap is asked
 pub mod rehearsals; // `rehearse`
 pub mod root_lists; // `roots_for`
 pub mod saves; // `same`, `order`

@@ -2,25 +2,20 @@
 // order in which they are traced (18, 1, 10, 9, 13, 7; after a refusal the lent list is as it was),
 // and whether heap and table fit together (18, 1, 10).
 
-ghost use Rattle.std.specs.Prelude.{◌≡◌, [], ◌∷◌, ◌<◌, length, IfOk};
-ghost use Rattle.tracing.specs.Traced.Listing.{listing};
-ghost use Rattle.tracing.specs.Traced.Inner.Lists.{Lists};
+ghost use Rattle.std.specs.Prelude.{◌≡◌, [], ◌∷◌, IfOk};
 ghost use Rattle.heap.specs.Lent.{lent};
 ghost use Rattle.heap.specs.Inner.Seen.{seen, state};
 ghost use Rattle.validate.specs.Door.HeapCalls.{asked};
-ghost use Rattle.yexwalu.specs.Slots.SlotHandles.{slot_handles, slot_tests, slot_call, slot_out};
-ghost use Rattle.yexwalu.specs.Slots.Traceable.{fits_table, misfit, fit_number, misfit_number, trace_call};
-ghost use Rattle.yexwalu.specs.Slots.Inner.Misfit.{misfit_in};
-ghost use Rattle.yexwalu.specs.Slots.Inner.Objects.{shown_of};
+ghost use Rattle.yexwalu.specs.Slots.SlotHandles.{slot_tests, slot_call, slot_out};
+ghost use Rattle.mark.specs.Slots.Misfits.{misfit};
+ghost use Rattle.yexwalu.specs.Slots.Traceable.{fit_number, misfit_number, trace_call};
 ghost use Rattle.validate.specs.Door.Inner.Entered.{Entered, entry_of};
 ghost use Rattle.type_table.specs.Rows.Lent.{lent as table_in};
 
-use handle::Slots;
 use heap::Heap;
 use heap::view::View;
-use mark::Objects;
-use refusal::{Answer, Refusal, Reply};
-use tracing::traced;
+use mark::slots::{first_misfit, list_slot};
+use refusal::{Answer, Refusal};
 use type_table::check::check_table;
 use type_table::rows::Table;
 use validate::door;
@@ -46,38 +41,6 @@ fn admit<'a>(
         return Err(Refusal::TypeTable);
     }
     Ok(view)
-}
-
-// The handles that slot i shows, which is in use: 13, 7.
-fn list_at(table: &Table, objects: Objects, i: usize, out: &mut [u64]) -> Reply
-    requires { i < objects.slots.slots }
-    ensures { Lists (listing (shown_of (table_in table.now) objects.entry i) (length out.old)) result out.old out.new }
-{
-    let Slots { s, narrow, .. } = objects.slots;
-    let kind = narrow[s + i];
-    let t = narrow[2 * s + i] as u64;
-    let start = objects.wide[i] as usize;
-    traced::list_slot(table, kind, t, start, objects.data_of(i), out)
-}
-
-// The handles that slot i shows: 9, 13, 7.
-pub fn list_slot(table: &Table, view: View, i: usize, out: &mut [u64]) -> Reply
-    ensures { Lists (slot_handles (table_in table.now) i (length out.old) (state view.entry)) result out.old out.new }
-{
-    let View {
-        heap,
-        narrow,
-        wide: _,
-        pool: _,
-    } = view;
-    let s = narrow.len() / 6;
-    if heap.slots <= i {
-        return Err(Refusal::NothingThere);
-    }
-    if narrow[s + i] == 0 {
-        return Err(Refusal::NothingThere);
-    }
-    list_at(table, Objects::of(view), i, out)
 }
 
 // The handles that a live slot shows, in the order in which it is traced: an object of kind Typed by its type, of kind Handles by offset, of kind Bytes none. One with nothing
@@ -113,46 +76,6 @@ pub fn yexwalu_slot_handles(
         Err(why) => Answer::from(Err(why)),
         Ok(view) => Answer::from(list_slot(&table, view, slot, out)),
     }
-}
-
-// Is slot i dead or not of kind Typed, or else of a type of the table and such that its handles can be traced?
-fn fits_table(table: &Table, view: View, i: usize) -> bool
-    requires { i < view.heap.slots }
-    ensures { result ≡ fits_table (table_in table.now) (state view.entry) i }
-{
-    let View {
-        heap: _,
-        narrow,
-        wide: _,
-        pool: _,
-    } = view;
-    let s = narrow.len() / 6;
-    if narrow[s + i] != 1 {
-        return true;
-    }
-    let t = narrow[2 * s + i] as usize;
-    if table.types.len() / 4 <= t {
-        return false;
-    }
-    let Err(why) = list_at(table, Objects::of(view), i, &mut []) else {
-        return true;
-    };
-    match why {
-        Refusal::Untraceable => false,
-        _ => true,
-    }
-}
-
-// The first slot that does not fit the type table.
-fn first_misfit(table: &Table, view: View) -> Option<usize>
-    ensures { misfit_in result ≡ misfit (table_in table.now) (state view.entry) }
-{
-    for i in 0..view.heap.slots {
-        if !fits_table(table, view, i) {
-            return Some(i);
-        }
-    }
-    None
 }
 
 // What `traceable` tells: 1 yes, and 0; or 0 no, and the first slot that does not fit.

@@ -4,13 +4,11 @@ ghost use Rattle.word.specs.Result.{ok};
 ghost use Rattle.refusal.specs.Told.{here, nothing};
 ghost use Rattle.heap.specs.State.{bit};
 ghost use Rattle.heap.specs.Lent.{lent};
-ghost use Rattle.heap.specs.Calls.{gc_due, reclaim_due, has_quarantine, is_plain, live_count, Place, place_at, Kind, kind_at, Stamp, stamp_at, resolve as resolved, edit as edited, write as written, reissue as reissued};
-ghost use Rattle.validate.specs.Door.HeapCalls.{asked, heap_ask, outcome, heap_call};
-ghost use Rattle.yexwalu.specs.Questions.Sealing.{sealing};
+ghost use Rattle.heap.specs.Calls.{gc_due, reclaim_due, has_quarantine, is_plain, live_count, Place, place_at, Kind, kind_at, Stamp, stamp_at, resolve as resolved};
+ghost use Rattle.validate.specs.Door.HeapCalls.{asked, heap_ask};
 
 use heap::Heap;
 use refusal::Answer;
-use validate::door::Done;
 
 #[unsafe(no_mangle)]
 pub extern "C" fn yexwalu_gc_due(
@@ -176,75 +174,4 @@ pub extern "C" fn yexwalu_stamp(
         (lent heap narrow.now wide.now pool.now) (λ h. stamp_at h i) }
 {
     yexwalu::questions::yexwalu_stamp(heap, narrow, wide, pool, i, marks, work)
-}
-
-#[unsafe(no_mangle)]
-pub extern "C" fn yexwalu_edit(
-    heap: Heap,
-    narrow: &mut [u32],
-    wide: &mut [u64],
-    pool: &mut [u8],
-    handle: u64,
-    bytes: &[u8],
-    start: usize,
-    marks: &mut [u8],
-    work: &mut [u64],
-) -> Done
-    ensures { outcome result.answer (lent result.heap narrow.new wide.new pool.new) marks.new work.new
-        ≡ heap_call here nothing marks.old work.old (lent heap narrow.old wide.old pool.old)
-        (λ h. edited (length pool.old) h handle bytes.now start) }
-{
-    yexwalu::questions::yexwalu_edit(heap, narrow, wide, pool, handle, bytes, start, marks, work)
-}
-
-#[unsafe(no_mangle)]
-pub extern "C" fn yexwalu_write(
-    heap: Heap,
-    narrow: &[u32],
-    wide: &mut [u64],
-    pool: &mut [u8],
-    i: usize,
-    at: usize,
-    bytes: &[u8],
-    marks: &mut [u8],
-    work: &mut [u64],
-) -> Answer
-    ensures { outcome result (lent heap narrow.now wide.new pool.new) marks.new work.new
-        ≡ heap_call nothing nothing marks.old work.old (lent heap narrow.now wide.old pool.old)
-        (λ h. written h i at bytes.now) }
-{
-    yexwalu::questions::yexwalu_write(heap, narrow, wide, pool, i, at, bytes, marks, work)
-}
-
-#[unsafe(no_mangle)]
-pub extern "C" fn yexwalu_reissue(
-    heap: Heap,
-    narrow: &mut [u32],
-    wide: &mut [u64],
-    pool: &[u8],
-    i: usize,
-    grown: u64,
-    marks: &mut [u8],
-    work: &mut [u64],
-) -> Done
-    ensures { outcome result.answer (lent result.heap narrow.new wide.new pool.now) marks.new work.new
-        ≡ heap_call here nothing marks.old work.old (lent heap narrow.old wide.old pool.now)
-        (λ h. reissued h i grown) }
-{
-    yexwalu::questions::yexwalu_reissue(heap, narrow, wide, pool, i, grown, marks, work)
-}
-
-#[unsafe(no_mangle)]
-pub extern "C" fn yexwalu_seal(
-    heap: Heap,
-    narrow: &[u32],
-    wide: &mut [u64],
-    pool: &[u8],
-    marks: &mut [u8],
-    work: &mut [u64],
-) -> Done
-    ensures { outcome result.answer (lent result.heap narrow.now wide.new pool.now) marks.new work.new
-        ≡ heap_call nothing nothing marks.old work.old (lent heap narrow.now wide.old pool.now) sealing }
-{
-    yexwalu::questions::yexwalu_seal(heap, narrow, wide, pool, marks, work)
 }

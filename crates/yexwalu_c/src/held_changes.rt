@@ -6,7 +6,7 @@ ghost use Rattle.heap.specs.State.{bit};
 ghost use Rattle.heap.specs.Lent.{view};
 ghost use Rattle.heap.specs.WellFormed.{well_formed};
 ghost use Rattle.heap.specs.Calls.{gc_due, reclaim_due, has_quarantine, is_plain, live_count, Place, place_at, Kind, kind_at, Stamp, stamp_at, resolve as resolved, edit as edited, write as written, reissue as reissued, free as freed};
-ghost use Rattle.yexwalu.specs.Questions.Sealing.{sealing};
+ghost use Rattle.yexwalu.specs.Changes.Sealing.{sealing};
 ghost use Rattle.unchecked.specs.Objects.Held.{in_place, Held};
 
 use refusal::Answer;

@@ -10,7 +10,7 @@ ghost use Rattle.page_format.specs.Pages.Answer.{text_answer, text_out};
 ghost use Rattle.unchecked.specs.Objects.Held.{in_place};
 ghost use Rattle.type_table.specs.Rows.View.{table_of};
 ghost use Rattle.tracing.specs.Traced.Listing.{written_to};
-ghost use Rattle.yexwalu.specs.Slots.SlotHandles.{slot_handles};
+ghost use Rattle.mark.specs.Slots.SlotHandles.{slot_handles};
 ghost use Rattle.yexwalu.specs.Slots.Traceable.{fit_number, misfit_number, fitting};
 
 use refusal::Answer;

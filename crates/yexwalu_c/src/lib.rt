@@ -2,6 +2,7 @@
 // tools/exports.py writes these files from the libraries; with --check it says whether they are what it would write.
 #![tactic(auto)]
 
+pub mod changes;
 pub mod collections;
 pub mod collections_joined;
 pub mod collections_wanted;

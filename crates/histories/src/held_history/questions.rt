@@ -13,7 +13,7 @@ ghost use Rattle.heap.specs.Calls.{has_quarantine as has_quarantine_in, is_plain
 ghost use Rattle.page_format.specs.Pages.Form.{written};
 ghost use Rattle.page_format.specs.Pages.Page.{page_text};
 ghost use Rattle.page_format.specs.Pages.Answer.{text_answer};
-ghost use Rattle.yexwalu.specs.Slots.SlotHandles.{slot_handles as slots_shown};
+ghost use Rattle.mark.specs.Slots.SlotHandles.{slot_handles as slots_shown};
 ghost use Rattle.yexwalu.specs.Slots.Traceable.{fit_number, misfit_number, fitting};
 ghost use Rattle.unchecked.specs.Objects.Held.{in_place};
 ghost use Rattle.histories.specs.WithoutCheck.{MatchesQuestion};

@@ -12,7 +12,7 @@ use Rattle.heap.specs.Done.{Leaves}
 use Rattle.heap.specs.Inner.Tells.{Tells}
 use Rattle.heap.specs.Inner.Seen.{seen, state}
 use Rattle.heap.specs.declared.view.View.{View}
-use Rattle.yexwalu.specs.Questions.Sealing.{sealing}
+use Rattle.yexwalu.specs.Changes.Sealing.{sealing}
 
 -- a seal tells nothing
 pub sealed-tells : {k k' : Lent} → Leaves k k' (seal (view k)) → Tells nothing nothing k k' (Ok (0, 0)) (sealing (view k))

@@ -15,7 +15,8 @@ use Rattle.page_format.specs.Pages.Page.{page_text}
 use Rattle.page_format.specs.Pages.Answer.{text_answer, text_out}
 use Rattle.page_format.specs.Pages.Inner.PageWritten.{PageWritten}
 use Rattle.heap.specs.State.{State}
-use Rattle.yexwalu.specs.Slots.Traceable.{misfit, fit_number, misfit_number, fitting}
+use Rattle.yexwalu.specs.Slots.Traceable.{fit_number, misfit_number, fitting}
+use Rattle.mark.specs.Slots.Misfits.{misfit}
 use mathlib.Core.Path.{◌≡◌, ap, subst, ◌∙◌}
 use mathlib.Core.Bool.{Bool}
 use mathlib.Core.List.{List}

@@ -18,7 +18,8 @@ use Rattle.heap.specs.Lent.{view}
 use Rattle.heap.specs.WellFormed.{well_formed}
 use Rattle.validate.specs.Door.HeapCalls.{Entry, admitted, whether, enough, ready, asking, asked_of, scratch_after}
 use Rattle.yexwalu.specs.Slots.SlotHandles.{slot_tests}
-use Rattle.yexwalu.specs.Slots.Traceable.{misfit, fit_number, misfit_number}
+use Rattle.yexwalu.specs.Slots.Traceable.{fit_number, misfit_number}
+use Rattle.mark.specs.Slots.Misfits.{misfit}
 use Rattle.yexwalu.specs.Slots.Once.{Finding, finding_told, FoundTold, FoundZero, FoundOnce}
 
 -- ---- what a call tells

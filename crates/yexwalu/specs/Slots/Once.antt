@@ -9,7 +9,8 @@ use Rattle.type_table.specs.Rows.View.{table_of}
 use Rattle.heap.specs.Lent.{Lent, view}
 use Rattle.validate.specs.Door.HeapCalls.{admitted, whether}
 use Rattle.yexwalu.specs.Slots.SlotHandles.{slot_tests}
-use Rattle.yexwalu.specs.Slots.Traceable.{misfit, fit_number, misfit_number, trace_call}
+use Rattle.yexwalu.specs.Slots.Traceable.{fit_number, misfit_number, trace_call}
+use Rattle.mark.specs.Slots.Misfits.{misfit}
 
 -- the refusal of the first test that fails, or the first slot that does not fit, if there is one
 abbrev pub Finding : Type 0

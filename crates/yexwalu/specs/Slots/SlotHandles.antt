@@ -1,21 +1,14 @@
 -- `slot_handles` (SCOPE, "Traced handles"): the handles that a live slot shows, in trace order; 18,
 -- 1, 10, 9, 13, 7.
-use Rattle.std.specs.Prelude.{ℕ, List, [], ◌∷◌, ◌++◌, length, if◌then◌else◌}
-use Rattle.word.specs.Result.{Result, refused}
+use Rattle.std.specs.Prelude.{ℕ, List, [], ◌∷◌, ◌++◌, length}
 use Rattle.refusal.specs.Told.{nothing}
 use Rattle.refusal.specs.declared.Refusal.TheVariants.{TypeTable}
-use Rattle.type_table.specs.Rows.Types.{Table}
 use Rattle.type_table.specs.Rows.View.{table_of}
 use Rattle.type_table.specs.Rows.Check.{table_good}
-use Rattle.tracing.specs.Traced.Listing.{listing, written_to}
-use Rattle.heap.specs.State.{State, slot_at, live}
+use Rattle.tracing.specs.Traced.Listing.{written_to}
 use Rattle.heap.specs.Lent.{Lent, view}
-use Rattle.collection.specs.Shown.{shown}
+use Rattle.mark.specs.Slots.SlotHandles.{slot_handles}
 use Rattle.validate.specs.Door.HeapCalls.{Test, test, admitted, whether, heap_tests, Asked, asking}
-
--- what slot i shows a collection, into a list with room for so many; a missing or dead slot is 9, one that can't be traced 13, too little room 7
-unfoldable pub slot_handles : Table → (i room : ℕ) → State → Result (List ℕ)
-slot_handles T i room h = if live (slot_at h i) then listing (shown T h i) room else refused 9
 
 -- w, fs, cs, b: the table's types, fields, constants and their bytes
 module _ (w fs cs b marks work : List ℕ) (l : Lent) where

@@ -1,7 +1,7 @@
 -- `held_reads::yexwalu_held_slot_handles` meets its contract.
 use lib.ListN.{length}
 use Rattle.type_table.specs.Rows.View.{table_of}
-use Rattle.yexwalu.specs.Slots.SlotHandles.{slot_handles}
+use Rattle.mark.specs.Slots.SlotHandles.{slot_handles}
 use Rattle.unchecked.proofs.ReadsLaws.Reading.{listed}
 use Rattle.unchecked.proofs.reads.yexwalu_held_slot_handles.Goals as goal
 

@@ -1,6 +1,6 @@
 -- `slot_door::find_misfit` meets its contract.
 use mathlib.Core.Path.{ap}
-use Rattle.yexwalu.specs.Slots.Inner.Misfit.{misfit_in}
+use Rattle.mark.specs.Slots.Inner.Misfit.{misfit_in}
 use Rattle.yexwalu.proofs.SlotsLaws.TraceCalls.{fitting-none, fitting-some}
 use Rattle.yexwalu.proofs.slots.find_misfit.Goals as goal
 

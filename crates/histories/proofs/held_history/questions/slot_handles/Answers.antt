@@ -2,7 +2,7 @@
 use lib.ListN.{length}
 use Rattle.refusal.specs.Told.{nothing}
 use Rattle.type_table.specs.Rows.View.{table_of}
-use Rattle.yexwalu.specs.Slots.SlotHandles.{slot_handles}
+use Rattle.mark.specs.Slots.SlotHandles.{slot_handles}
 use Rattle.histories.proofs.HeldHistoryLaws.Checks.{matches-question}
 use Rattle.histories.proofs.held_history.questions.slot_handles.Goals as goal
 

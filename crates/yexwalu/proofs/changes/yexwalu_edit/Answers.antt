@@ -1,8 +1,8 @@
--- `heap_door::yexwalu_edit` meets its contract.
+-- `changes::yexwalu_edit` meets its contract.
 use Rattle.std.proofs.Common.{rules}
 use Rattle.heap.specs.Lent.{lent}
 use Rattle.validate.proofs.DoorLaws.Entering.{entered, call-refused, call-ready}
-use Rattle.yexwalu.proofs.questions.yexwalu_edit.Goals as goal
+use Rattle.yexwalu.proofs.changes.yexwalu_edit.Goals as goal
 
 pub invariant_of-lent : goal.invariant_of-lent
 invariant_of-lent c = record { formed = entered (lent c.args.heap c.args.narrow.now c.args.wide.now c.args.pool.now) c.enter.ensures c.in-Ok.is }

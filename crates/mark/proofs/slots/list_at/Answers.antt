@@ -1,11 +1,11 @@
--- `slot_door::list_at` meets its contract.
+-- `slots::list_at` meets its contract.
 use mathlib.Core.Path.{subst}
 use lib.ListN.{length}
 use Rattle.type_table.specs.Rows.Lent.{lent}
 use Rattle.tracing.specs.Traced.Listing.{listing}
 use Rattle.tracing.specs.Traced.Inner.Lists.{Lists}
-use Rattle.yexwalu.proofs.SlotsLaws.SlotCalls.{shown-at}
-use Rattle.yexwalu.proofs.slots.list_at.Goals as goal
+use Rattle.mark.proofs.SlotsLaws.Showing.{shown-at}
+use Rattle.mark.proofs.slots.list_at.Goals as goal
 
 pub returns : goal.returns
 returns c =

@@ -1,13 +1,13 @@
--- `slot_door::fits_table` meets its contract.
+-- `slots::fits_table` meets its contract.
 use mathlib.Core.Path.{sym, ap, ◌∙◌, subst}
 use Prim.Native.Nat.{◌<◌}
 use Rattle.type_table.specs.Rows.Lent.{lent}
 use Rattle.mark.specs.Inner.Objects.{Laid}
 use Rattle.std.specs.Prelude.{Err}
 use native.Mathlib.Omega.{arith}
-use Rattle.yexwalu.proofs.SlotsLaws.SlotCalls.{fit-of, at_listed}
-use Rattle.yexwalu.proofs.SlotsLaws.TraceCalls.{other_fits, no-type, not-refused, other-refused, is-traced, not-traced}
-use Rattle.yexwalu.proofs.slots.fits_table.Goals as goal
+use Rattle.mark.proofs.SlotsLaws.Showing.{fit-of, at_listed}
+use Rattle.mark.proofs.SlotsLaws.Fitting.{other_fits, no-type, not-refused, other-refused, is-traced, not-traced}
+use Rattle.mark.proofs.slots.fits_table.Goals as goal
 
 pub overflow_add-s : goal.overflow_add-s
 overflow_add-s c = omega (arith, (fit-of c.args.view).runs.used, (fit-of c.args.view).types, c.requires)

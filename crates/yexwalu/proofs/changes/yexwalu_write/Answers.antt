@@ -1,7 +1,7 @@
--- `heap_door::yexwalu_write` meets its contract.
+-- `changes::yexwalu_write` meets its contract.
 use Rattle.heap.specs.Lent.{lent}
 use Rattle.validate.proofs.DoorLaws.Entering.{entered, call-refused, call-ready}
-use Rattle.yexwalu.proofs.questions.yexwalu_write.Goals as goal
+use Rattle.yexwalu.proofs.changes.yexwalu_write.Goals as goal
 
 pub write-requires : goal.write-requires
 write-requires c = entered ((lent c.args.heap c.args.narrow.now c.args.wide.now c.args.pool.now)) c.enter.ensures c.in-Ok.is

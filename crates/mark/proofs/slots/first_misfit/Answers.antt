@@ -1,9 +1,9 @@
--- `slot_door::first_misfit` meets its contract.
+-- `slots::first_misfit` meets its contract.
 use Rattle.type_table.specs.Rows.Lent.{lent}
-use Rattle.yexwalu.proofs.SlotsLaws.TraceCalls.{passed-begin, passed-next, found-misfit, found_none}
+use Rattle.mark.proofs.SlotsLaws.Fitting.{passed-begin, passed-next, found-misfit, found_none}
 use mathlib.Core.Path.{sym, ◌∙◌}
 use native.Mathlib.Omega.{arith}
-use Rattle.yexwalu.proofs.slots.first_misfit.Goals as goal
+use Rattle.mark.proofs.slots.first_misfit.Goals as goal
 
 pub loop-i-init : goal.loop-i-init
 loop-i-init c = passed-begin _ _

@@ -1,14 +1,14 @@
--- `heap_door::yexwalu_seal` meets its contract.
+-- `changes::yexwalu_seal` meets its contract.
 use mathlib.Core.Path.{refl}
 use Rattle.refusal.specs.Told.{nothing}
 use Rattle.std.specs.Prelude.{Ok}
 use Rattle.heap.specs.Calls.{seal}
-use Rattle.yexwalu.specs.Questions.Sealing.{sealing}
+use Rattle.yexwalu.specs.Changes.Sealing.{sealing}
 use Rattle.heap.specs.Done.{Leaves}
 use Rattle.heap.specs.Inner.Tells.{Tells}
 use Rattle.heap.specs.Lent.{Lent, lent, view}
 use Rattle.validate.proofs.DoorLaws.Entering.{entered, call-refused, call-ready}
-use Rattle.yexwalu.proofs.questions.yexwalu_seal.Goals as goal
+use Rattle.yexwalu.proofs.changes.yexwalu_seal.Goals as goal
 
 sealed-told : (l l' : Lent) → Leaves l l' (seal (view l)) → Tells nothing nothing l l' (Ok (0, 0)) (sealing (view l))
 sealed-told l l' k = record { leaves = k; says = refl }

@@ -1,7 +1,7 @@
--- `heap_door::yexwalu_reissue` meets its contract.
+-- `changes::yexwalu_reissue` meets its contract.
 use Rattle.heap.specs.Lent.{lent}
 use Rattle.validate.proofs.DoorLaws.Entering.{entered, call-refused, call-ready}
-use Rattle.yexwalu.proofs.questions.yexwalu_reissue.Goals as goal
+use Rattle.yexwalu.proofs.changes.yexwalu_reissue.Goals as goal
 
 pub reissue-done-requires : goal.reissue-done-requires
 reissue-done-requires c = entered ((lent c.args.heap c.args.narrow.now c.args.wide.now c.args.pool.now)) c.enter.ensures c.in-Ok.is

@@ -1,11 +1,11 @@
--- `slot_door::list_slot` meets its contract.
+-- `slots::list_slot` meets its contract.
 use mathlib.Core.Path.{sym, subst}
 use Prim.Native.Nat.{◌<◌}
 use Rattle.type_table.specs.Rows.Lent.{lent}
 use Rattle.mark.specs.Inner.Objects.{Laid}
 use native.Mathlib.Omega.{arith}
-use Rattle.yexwalu.proofs.SlotsLaws.SlotCalls.{fit-of, at_listed, slot-missing, slot-dead, slot-listed}
-use Rattle.yexwalu.proofs.slots.list_slot.Goals as goal
+use Rattle.mark.proofs.SlotsLaws.Showing.{fit-of, at_listed, slot-missing, slot-dead, slot-listed}
+use Rattle.mark.proofs.slots.list_slot.Goals as goal
 
 pub returns-then-heap-i : goal.returns-then-heap-i
 returns-then-heap-i c = slot-missing c.args.view _ _ _ c.if-heap-i.true
