@@ -940,7 +940,7 @@ impl Heap {
     /// roots. A refusal, which is one of `roots_for`, leaves the heap as it was.
     ///
     /// ```
-    /// use yexwalu::{Heap, Kind, Refusal, TypeTable};
+    /// use yexwalu::{Handle, Heap, Kind, Refusal, TypeTable};
     /// let mut table = TypeTable::new();
     /// let access = table.access();
     /// let mut heap = Heap::new(1, 64, 4096)?;
@@ -953,6 +953,9 @@ impl Heap {
     /// assert_eq!(heap.collect_wanted(&table, &[], &wanted)?, [root]);
     /// assert!(heap.resolve(held).is_ok());
     /// assert_eq!(heap.resolve(other), Err(Refusal::Stale));
+    /// // once more, with the roots in a lent list: nothing is left to drop
+    /// let mut out = [Handle::NULL; 2];
+    /// assert_eq!((heap.collect_wanted_into(&table, &[], &wanted, &mut out)?, out[0]), (1, root));
     /// # Ok::<(), Refusal>(())
     /// ```
     pub fn collect_wanted(&mut self, types: &(impl AnyTable + ?Sized), pins: &[Slot], wanted: &[Slot]) -> Result<Vec<Handle>, Refusal> {
