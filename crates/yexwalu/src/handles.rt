@@ -1,4 +1,5 @@
-// Calls that list handles, in the order in which they are traced: 10, then 13, then 7. After a refusal the lent lists are as they were. Those on a heap and a type table stand in `slot_door`.
+// Calls that list handles, in the order in which they are traced: 10, then 13, then 7. After a
+// refusal the lent lists are as they were. Those on a heap and a type table stand in `slots`.
 ghost use Rattle.std.specs.Prelude.{length};
 ghost use Rattle.type_table.specs.Rows.View.{table_of};
 ghost use Rattle.tracing.specs.Trace.Places.{value_handles, object_handles};

@@ -1,8 +1,6 @@
-// The front door: every public call, a module a subject.
-//
-// The front door: every public call. Each is the export of its name, with its whole contract and no
-// `requires`: it takes all inputs and refuses in the order of SCOPE, "Order of refusals". Those on
-// a heap stand in crates of their own, so that each is checked in a short time.
+// The front door: every public call, a module a subject. Each is the export of its name, with its
+// whole contract and no `requires`: it takes all inputs and refuses in the order of SCOPE, "Order of
+// refusals".
 #![tactic(auto)]
 
 pub mod types; // layouts, descriptor sizes, "has handles"
@@ -17,7 +15,7 @@ pub mod objects; // `new`, `alloc_from`, `alloc`, `take`, `free`, `recycle`
 pub mod pages; // `page_length`, `write_page`, `read_page`
 pub mod questions; // what a heap is asked
 pub mod rehearsals; // `rehearse`
-pub mod root_lists; // `roots_for`
+pub mod root_lists; // `roots_for`, `collect_wanted`
 pub mod saves; // `same`, `order`
 pub mod scripts; // `run`
 pub mod slots; // `slot_handles`, `traceable`
