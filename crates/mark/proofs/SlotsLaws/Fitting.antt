@@ -24,7 +24,7 @@ use Rattle.type_table.specs.Rows.Lent.{lent as table_in}
 use Rattle.type_table.proofs.RowsLaws.Lookup.{length_types}
 use mathlib.Core.Path.{◌≡◌, refl, sym, ap, ◌∙◌}
 use mathlib.Core.Bool.{Bool, true, false}
-use mathlib.Core.List.{List, [], ◌∷◌}
+use mathlib.Core.List.{List}
 use mathlib.Core.Option.{Option, none, some}
 use native.Mathlib.Omega.{arith}
 use lib.Dec.{eqb, leb}

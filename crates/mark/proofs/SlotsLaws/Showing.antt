@@ -25,8 +25,8 @@ use Rattle.mark.proofs.Formed.{formed-fit, formed-graph}
 use Rattle.mark.specs.Slots.Inner.Objects.{shown_of}
 use Rattle.mark.specs.Slots.SlotHandles.{slot_handles}
 use mathlib.Core.Path.{◌≡◌, refl, sym, ap, ◌∙◌, subst}
-use mathlib.Core.Bool.{Bool, true, false}
-use mathlib.Core.List.{List, [], ◌∷◌}
+use mathlib.Core.Bool.{false}
+use mathlib.Core.List.{List}
 use native.Mathlib.Omega.{arith}
 use lib.ListN.{length, get_or}
 
