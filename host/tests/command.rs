@@ -453,7 +453,8 @@ fn same_compares_what_is_sealed() {
 #[test]
 fn same_says_so_of_the_documents_example() {
     let document = fs::read_to_string(samples("../FORMAT.md")).unwrap();
-    let section = document.split_once("\n## 18. ").unwrap().1.split("\n## ").next().unwrap();
+    let section = document.split_once("\n## 18. ").unwrap().1;
+    let section = section.split("\n## ").next().unwrap();
     let slots: Vec<&str> = section.lines().filter_map(|l| l.strip_prefix("    ")).collect();
     let seals: Vec<&str> = section.split_once("the seals 7").unwrap().1.split_once(" holds").unwrap().0.split(" (").take(2).collect();
     let (first, second) = (format!("7{}", seals[0]), seals[1].split_once(" and ").unwrap().1);

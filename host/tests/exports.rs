@@ -12,17 +12,26 @@ fn text(path: &str) -> String {
     fs::read_to_string(top().join(path)).unwrap_or_else(|e| panic!("{path}: {e}"))
 }
 
+// The files of a folder and of those in it, in order.
+fn files_of(folder: &Path) -> Vec<PathBuf> {
+    let mut found: Vec<PathBuf> = fs::read_dir(folder).unwrap_or_else(|e| panic!("{}: {e}", folder.display())).map(|f| f.unwrap().path()).collect();
+    found.sort();
+    found.into_iter().flat_map(|f| if f.is_dir() { files_of(&f) } else { vec![f] }).collect()
+}
+
 // The source of a crate, all its files.
 fn source_of(name: &str) -> String {
-    let folder = top().join(format!("crates/{name}/src"));
-    let mut files: Vec<PathBuf> = fs::read_dir(&folder).unwrap_or_else(|e| panic!("{name}: {e}")).map(|f| f.unwrap().path()).collect();
-    files.sort();
-    files.iter().map(|f| fs::read_to_string(f).unwrap()).collect()
+    files_of(&top().join(format!("crates/{name}/src"))).iter().map(|f| fs::read_to_string(f).unwrap()).collect()
+}
+
+// The modules in which Rattle code finds the calls. The other modules of the crate have most of the calls, and functions that those without a check share with them.
+fn front_door() -> String {
+    ["handles", "heaps", "live", "page", "table_text", "types"].map(|module| text(&format!("crates/yexwalu/src/{module}.rt"))).concat()
 }
 
 // What the front door has for Rattle, in one of its modules: `pub use crate::yexwalu_name as name;`, or several of a crate in braces. Three that an import can't rename so are functions, `pub fn name`, that call it.
 fn public_calls() -> Vec<String> {
-    let source = source_of("yexwalu");
+    let source = front_door();
     let lists = source.split("\npub use ").skip(1).map(|u| u.split_once(';').unwrap().0);
     let used = lists.flat_map(|list| list.split(['{', ',', '}']).filter_map(|u| u.trim().split_once(" as ")));
     let mut calls: Vec<String> = used
@@ -39,7 +48,7 @@ fn public_calls() -> Vec<String> {
 
 // The public functions of the front door that stand under a short name: the name, then what stands from its parameters to its body, and the body.
 fn short_names() -> BTreeMap<String, (String, String)> {
-    let source = source_of("yexwalu");
+    let source = front_door();
     let functions = source.split("\npub fn ").skip(1).filter(|f| !f.starts_with("yexwalu_"));
     let parts = functions.map(|f| {
         let (head, rest) = f.split_once("\n{\n").unwrap();
