@@ -3,6 +3,7 @@
 
 ghost use Rattle.theorems.specs.ValueTexts.TextDetermines.{TextDetermines};
 ghost use Rattle.theorems.specs.ValueTexts.LengthExact.{LengthExact};
+ghost use Rattle.theorems.specs.ValueTexts.TracedHandles.{TracedHandles};
 
 /// Two objects of one type with one text have one descriptor and agree at every value, so the form
 /// hides nothing but padding and what follows the value.
@@ -14,6 +15,12 @@ pub fn text_determines_values()
 /// it answers there.
 pub fn length_is_exact()
     ensures { LengthExact }
+{}
+
+/// The handles that the text of an object's values shows are the ones that the tracer hands out for
+/// that object, at the same places and in the same order, whatever bytes follow the value.
+pub fn text_shows_traced_handles()
+    ensures { TracedHandles }
 {}
 
 #[cfg(test)]
