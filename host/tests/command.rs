@@ -456,7 +456,8 @@ fn same_says_so_of_the_documents_example() {
     let section = document.split_once("\n## 18. ").unwrap().1;
     let section = section.split("\n## ").next().unwrap();
     let slots: Vec<&str> = section.lines().filter_map(|l| l.strip_prefix("    ")).collect();
-    let seals: Vec<&str> = section.split_once("the seals 7").unwrap().1.split_once(" holds").unwrap().0.split(" (").take(2).collect();
+    let prose = section.replace('\n', " ");
+    let seals: Vec<&str> = prose.split_once("the seals 7").unwrap().1.split_once(" holds").unwrap().0.split(" (").take(2).collect();
     let (first, second) = (format!("7{}", seals[0]), seals[1].split_once(" and ").unwrap().1);
     assert_eq!(slots.len(), 3);
     let head = "tag,since_gc,reclaim_at,live_bytes,slots,free,quarantine,sealed,retired\n1,0,4096,0,3,1,0,2,0\ngeneration,kind,type,start,writes64,data\n";
