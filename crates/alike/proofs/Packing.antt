@@ -1,15 +1,27 @@
 -- Queue and turns in one word a slot. Assumes nothing.
-use Prim.Native.Nat.{ℕ, suc, ◌+◌, ◌*◌, ◌/◌, ◌%◌, ◌<◌}
+use Prim.Native.Nat.{ℕ, suc, ◌+◌, ◌*◌, ◌/◌, ◌%◌, ◌≤◌, ◌<◌}
 use mathlib.Core.Path.{◌≡◌, sym, ap, ◌∙◌}
 use mathlib.Core.List.{List}
-use lib.ListN.{length, get_or}
-use lib.Seq.{get_or-set_same, get_or-set_other}
+use lib.ListN.{length, get_or, take, length-take}
+use lib.Seq.{get_or-set_same, get_or-set_other, get_or-take}
 use native.Mathlib.Omega.{arith}
 use native.Mathlib.Decide.{ℕ_discrete}
 use Rattle.reach.specs.Reach.{◌∈◌}
 use Rattle.alike.specs.Order.{turn}
 use Rattle.alike.specs.Inner.Packed.{Packed, put_turn}
 use Rattle.alike.proofs.Lists.{Once, turn_at}
+
+-- the queue that a marking left, of slots below 2^24, with no turn yet
+pub packed-begin : (work : List ℕ) (n : ℕ) → n ≤ length work → ((k : ℕ) → k < n → get_or work k 0 < 16777216) → Packed work (take n work) 0
+packed-begin work n r s =
+    record {
+      below = λ j h.
+          let b : j < n = omega (arith, length-take n work) in
+          let l : get_or work j 0 < 16777216 = s j b in
+          let e : get_or (take n work) j 0 ≡ get_or work j 0 = get_or-take n work j 0 b in
+          omega arith;
+      above = λ k h. absurd (omega arith);
+    }
 
 -- one turn
 pub packed-next : (work q : List ℕ) (i : ℕ) → Packed work q i → Once q → i < length q → get_or q i 0 < length work → Packed (put_turn work (get_or q i 0) i) q (suc i)

@@ -1,7 +1,7 @@
 // Answers of a script's lines, for the program `replay`, each written to standard output.
 #![tactic(auto)]
 
-ghost use Rattle.std.specs.Prelude.{◌≡◌, map, take, OnOk, Ok};
+ghost use Rattle.std.specs.Prelude.{◌≡◌, ◌++◌, map, take, drop, OnOk, Ok};
 ghost use Rattle.answers.specs.Inner.Folding.{folded};
 
 use refusal::Answer;
@@ -20,22 +20,6 @@ impl<'a, T: Display> Display for List<'a, T> {
         write!(f, "{first}")?;
         for x in rest {
             write!(f, ",{x}")?;
-        }
-        Ok(())
-    }
-}
-
-/// Bytes in hexadecimal; `-` for none.
-#[derive(Clone, Copy)]
-pub struct Hex<'a>(pub &'a [u8]);
-
-impl<'a> Display for Hex<'a> {
-    fn fmt<W: fmt::Write>(&self, f: &mut fmt::Formatter<W>) -> fmt::Result {
-        if self.0.is_empty() {
-            return write!(f, "-");
-        }
-        for b in self.0 {
-            write!(f, "{b:02x}")?;
         }
         Ok(())
     }
@@ -80,13 +64,36 @@ fn folded(b: u8) -> u8
     if b == b'\n' { b';' } else { b }
 }
 
-/// A space, then the first `length` bytes of a page on one line. The page's bytes are changed, and the clause says to which; what is written no clause can name.
-pub fn put_page(rt: &impl Print, page: &mut [u8], length: u64) -> io::Result<()>
-    ensures { page.new ≡ map folded page.old }
+// Puts text on one line.
+fn fold(text: &mut [u8])
+    ensures { text.new ≡ map folded text.old }
 {
-    for b in page.iter_mut() {
+    for b in text.iter_mut() {
         *b = folded(*b);
     }
+}
+
+/// A space, then the first `length` bytes of a page on one line. These are changed, and the clause says to which; what is written no clause can name.
+pub fn put_page(rt: &impl Print, page: &mut [u8], length: u64) -> io::Result<()>
+    ensures { page.new ≡ map folded (take length page.old) ++ drop length page.old }
+{
+    let n = page.len().min(length as usize);
+    fold(&mut page[..n]);
     print!(rt; " ")?;
-    rt.write_all(front(page, length))
+    rt.write_all(&page[..n])
+}
+
+/// A space, then bytes in hexadecimal; `-` for none.
+// Kept: they are put by `text::put_hex`, many at once. A `Display` that writes byte by byte takes ten times as long for a large object.
+pub fn put_hex(rt: &impl Print, bytes: &[u8]) -> io::Result<()> {
+    if bytes.is_empty() {
+        return print!(rt; " -");
+    }
+    print!(rt; " ")?;
+    let mut room = [0u8; 8192];
+    for part in bytes.chunks(4096) {
+        let n = text::put_hex(&mut room, 0, part);
+        rt.write_all(front(&room, n as u64))?;
+    }
+    Ok(())
 }

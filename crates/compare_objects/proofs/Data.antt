@@ -85,9 +85,9 @@ module _ (T : Table) (kind t start : ℕ) (b c work : List ℕ) (R R' : ℕ → 
     pub data-kept : work' ≡ work
     data-kept = by-places (λ ps e. ap (λ (x : Raw). x.words) (raw-is ps e))
 
-    module _ (even : length b ≡ length c) (from : ℕ) (ef : from ≡ min start (length b)) (hidden shown last handles : Ordering)
-        (eh : hidden ≡ order (take (from - 0) (drop 0 b)) (take (from - 0) (drop 0 c))) (es : shown ≡ order_of (get_or found 0 0))
-        (el : last ≡ order (take ((length b - from) - done) (drop done (take (length b - from) (drop from b)))) (take ((length b - from) - done) (drop done (take (length c - from) (drop from c)))))
+    module _ (even : length b ≡ length c) (from : ℕ) (ef : from ≡ min start (length b)) (hidden before shown handles : Ordering)
+        (eh : hidden ≡ order (take (from - 0) (drop 0 b)) (take (from - 0) (drop 0 c))) (es : before ≡ order_of (get_or found 0 0))
+        (el : shown ≡ (before and_then order (take ((length b - from) - done) (drop done (take (length b - from) (drop from b)))) (take ((length b - from) - done) (drop done (take (length c - from) (drop from c))))))
         (ei : handles ≡ order_of (get_or found 1 0)) where
       ef' : from ≡ min start (length c)
       ef' = omega arith
@@ -97,24 +97,23 @@ module _ (T : Table) (kind t start : ℕ) (b c work : List ℕ) (R R' : ℕ → 
           let z : from - 0 ≡ from = omega arith in
           eh ∙ ap (λ (k : ℕ). order (take k b) (take k c)) z ∙ (λ i. order (front_same start from b ef i) (front_same start from c ef' i))
 
-      last-is : last ≡ order (drop done (drop start b)) (drop done (drop start c))
-      last-is =
+      shown-is : shown ≡ (before and_then order (drop done (drop start b)) (drop done (drop start c)))
+      shown-is =
           let n : length b - from ≡ length c - from = omega arith in
-          el ∙ (λ i. order (tail-same start from b ef (length b - from) done refl i) (tail-same start from c ef' (length b - from) done n i))
+          el ∙ (λ i. before and_then order (tail-same start from b ef (length b - from) done refl i) (tail-same start from c ef' (length b - from) done n i))
 
       -- as the code puts them together
-      pub data_is : (((hidden and_then shown) and_then last) and_then handles) ≡ data_beside place start b c (shown_places T kind t start b)
+      pub data_is : ((hidden and_then shown) and_then handles) ≡ data_beside place start b c (shown_places T kind t start b)
       unfolding data_beside
       data_is = by-places (λ ps e.
           let raw = raw-is ps e in
           let y : Beside = along ps in
-          let f0 : shown ≡ y.bytes = es ∙ ap (λ (x : Raw). order_of (get_or x.marks 0 0)) raw ∙ order-code y.bytes in
+          let f0 : before ≡ y.bytes = es ∙ ap (λ (x : Raw). order_of (get_or x.marks 0 0)) raw ∙ order-code y.bytes in
           let f1 : handles ≡ y.handles = ei ∙ ap (λ (x : Raw). order_of (get_or x.marks 1 0)) raw ∙ order-code y.handles in
           let dn : done ≡ y.done = ap (λ (x : Raw). x.count) raw in
           let front : Ordering = order (take start b) (take start c) in
           let tail : Ordering = order (drop y.done (drop start b)) (drop y.done (drop start c)) in
-          (λ i. ((hidden-is i and_then f0 i) and_then last-is i) and_then f1 i)
-          ∙ ap (λ (d : ℕ). ((front and_then y.bytes) and_then order (drop d (drop start b)) (drop d (drop start c))) and_then y.handles) dn
-          ∙ ap (λ (o : Ordering). o and_then y.handles) (then-assoc front y.bytes tail)
+          (λ i. (hidden-is i and_then shown-is i) and_then f1 i)
+          ∙ (λ i. (front and_then (f0 i and_then order (drop (dn i) (drop start b)) (drop (dn i) (drop start c)))) and_then y.handles)
           ∙ then-assoc front (y.bytes and_then tail) y.handles
           ∙ ap (data_beside place start b c) (sym e))

@@ -1,10 +1,12 @@
 // Two objects side by side: kind, type, start and length as numbers, then the bytes outside the handle places, then the handles.
 #![tactic(auto)]
 
-ghost use Rattle.std.specs.Prelude.{◌≡◌, ◌<◌, length};
+ghost use Rattle.std.specs.Prelude.{◌≡◌, ◌≤◌, ◌<◌, ◌-◌, length, take, drop};
 ghost use Rattle.std.proofs.Math.Option.{none};
 ghost use Rattle.ty.specs.Inner.Lent.{lent};
 ghost use Rattle.trace.specs.Places.{shown_places};
+ghost use Rattle.alike.specs.Order.{order};
+ghost use Rattle.alike.specs.Inner.ByTurns.{◌and_then◌};
 ghost use Rattle.beside.specs.Inner.Ranks.{slots_resolve, place_in};
 ghost use Rattle.compare_objects.specs.Inner.Sides.{data_beside};
 ghost use Rattle.compare_objects.specs.Inner.Lent.{shown_by, sides_order};
@@ -18,6 +20,17 @@ use ty::Table;
 mod head; // kind, type, start and length
 
 pub use head::Head;
+
+// The first that is not equal decides: what is found before, then the bytes from..to, which are looked at only where all before is equal.
+fn then_bytes(before: Ordering, data: &[u8], other: &[u8], from: usize, to: usize) -> Ordering
+    requires { (to ≤ length «data».now) × (to ≤ length other.now) }
+    ensures { result ≡ (before and_then order (take (to - from) (drop from «data».now)) (take (to - from) (drop from other.now))) }
+{
+    if before.is_ne() {
+        return before;
+    }
+    beside::compare_bytes(data, other, from, to)
+}
 
 // Kept: the order of two heaps' memory, not of two values, so it is no Ord.
 // The data of two objects whose numbers are those of x: one trace of the first with the second's bytes beside it. Bytes before start are among those outside.
@@ -49,10 +62,16 @@ fn compare_data(
         return Ordering::Equal;
     };
     let hidden = beside::compare_bytes(data, other, 0, from);
-    let shown = beside::order_of(found[0]);
-    let last = beside::compare_bytes(&data[from..], &other[from..], done, data.len() - from);
+    let before = beside::order_of(found[0]);
+    let shown = then_bytes(
+        before,
+        &data[from..],
+        &other[from..],
+        done,
+        data.len() - from,
+    );
     let handles = beside::order_of(found[1]);
-    hidden.then(shown).then(last).then(handles)
+    hidden.then(shown).then(handles)
 }
 
 // The objects of two slots, i in the one heap and j in the other. `work` has the turns of the one and is left as it is.

@@ -1,16 +1,20 @@
 -- A heap under a type table fulfils what the comparison of two saves asks for, and shows what a collection traces. Assumes nothing.
-use Prim.Native.Nat.{ℕ, ◌-◌, ◌^◌, ◌<◌}
+use Prim.Native.Nat.{ℕ, suc, ◌-◌, ◌^◌, ◌≤◌, ◌<◌}
 use mathlib.Core.Path.{◌≡◌, refl, sym, ap, ◌∙◌}
-use mathlib.Core.List.{List}
-use lib.ListN.{length, get_or, take, drop, length-take, length-drop}
+use mathlib.Core.List.{List, [], ◌++◌}
+use lib.ListN.{length, get_or, take, drop, length-append, length-map, length-take, length-drop, get_or-map, get_or-eq_default}
+use native.Mathlib.Decide.{dec_lt}
 use native.Mathlib.Omega.{arith}
 use Rattle.std.specs.Prelude.{Option, Some, None}
+use Rattle.std.specs.List.{concat}
 use Rattle.ty.specs.Types.{Const.plain, Table}
 use Rattle.ty.specs.View.{part_at, read_part, table_of}
 use Rattle.ty.proofs.Lookup.{const-at}
 use Rattle.heap.specs.Packing.{data_at}
 use Rattle.word.specs.Run.{start_of}
-use Rattle.heap.specs.State.{State, slot_at}
+use Rattle.heap.specs.State.{Slot, State, no_slot, slot_at, data_of}
+use Rattle.heap.proofs.Sound.{Sound}
+use Rattle.heap.proofs.Packing.{concat-split}
 use Rattle.heap.specs.Calls.{resolve}
 use Rattle.places.specs.StrideZero.{ShortConstants}
 use Rattle.collection.specs.Collected.{found}
@@ -44,6 +48,21 @@ heap-one-table T g h =
     (λ x. found (resolve h x)) (λ i. (slot_at h i).kind) (λ i. (slot_at h i).type) (λ i. (slot_at h i).start) (λ i. (slot_at h i).bytes)
 
 -- ---- data and constants are short, as `slot_apart` asks
+
+-- the data of a well formed heap lies in its pool
+pub heap-short : (S P : ℕ) (h : State) → Sound S P h → (i : ℕ) → length (slot_at h i).bytes ≤ 1073741824
+heap-short S P h s i = go (dec_lt i (length h.slots))
+  where
+    go : Dec (i < length h.slots) → length (slot_at h i).bytes ≤ 1073741824
+    go (yes l) =
+        let n : length (data_of h.slots) ≡ length h.slots = length-map h.slots (λ (x : Slot). x.bytes) in
+        let d : get_or (data_of h.slots) i [] ≡ (slot_at h i).bytes = get_or-map (λ (x : Slot). x.bytes) h.slots i no_slot in
+        let f = ap length (concat-split (data_of h.slots) i (omega arith)) in
+        let a = length-append (concat (take i (data_of h.slots))) (get_or (data_of h.slots) i [] ++ concat (drop (suc i) (data_of h.slots))) in
+        let b = length-append (get_or (data_of h.slots) i []) (concat (drop (suc i) (data_of h.slots))) in
+        let e = ap length d in
+        omega (arith, s.data-fit, s.pool-range)
+    go (no l) = let e : (slot_at h i).bytes ≡ [] = ap (λ (x : Slot). x.bytes) (get_or-eq_default h.slots no_slot (omega arith)) in let z = ap length e in omega arith
 
 -- what lies in a lent pool is no longer than it
 pub data-short : (ends pool : List ℕ) (i : ℕ) → length pool < 2 ^ 64 → length (data_at ends pool i) < 2 ^ 64

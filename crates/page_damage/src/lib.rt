@@ -2,10 +2,9 @@
 // whether header and memory are still the same.
 #![tactic(auto)]
 
-ghost use Rattle.std.specs.Prelude.{◌≤◌, length, IfSome};
+ghost use Rattle.std.specs.Prelude.{ℕ, ◌≤◌, ◌<◌, length, slice_index_or, IfSome};
 
 use heap::Heap;
-use std::alloc::{AllocError, Global};
 
 fn sevens() -> Heap {
     Heap {
@@ -43,9 +42,14 @@ pub struct Seen {
 }
 
 impl Seen {
-    // Is this number the answer, and all the same just if that is a refusal?
-    fn is_sound(&self, number: u64) -> bool {
-        self.number == number && self.same == (number != 0)
+    // Where the answer stands among the numbers that are counted, if all is the same just if it is a refusal.
+    fn place(&self) -> Option<usize>
+        ensures { IfSome result (λ k. k < 5) }
+    {
+        if self.same == (self.number == 0) {
+            return None;
+        }
+        NUMBERS.iter().position(|number| *number == self.number)
     }
 
     pub fn name(&self) -> &'static str {
@@ -76,11 +80,11 @@ fn read_page(text: &[u8]) -> Seen {
     }
 }
 
-// Where `part` first stands in a text.
+// Where `part` first stands in a text: nothing stands at its start, also of an empty one.
 pub fn find(s: &[u8], part: &[u8]) -> Option<usize>
     ensures { IfSome result (λ at. at ≤ length s.now) }
 {
-    for at in 0..s.len() {
+    for at in 0..=s.len() {
         if s[at..].starts_with(part) {
             return Some(at);
         }
@@ -88,38 +92,39 @@ pub fn find(s: &[u8], part: &[u8]) -> Option<usize>
     None
 }
 
+// How many bytes a page may have, with those that are put into it. A longer one isn't read: the empty text is, which is no page.
+const LONGEST: usize = 1024;
+
 // What is answered to a page with up to `old` bytes from `at` on replaced by `new`.
-pub fn read_damaged(
-    alloc: Global,
-    page: &[u8],
-    at: usize,
-    old: usize,
-    new: &[u8],
-) -> Result<Seen, AllocError>
+pub fn read_damaged(page: &[u8], at: usize, old: usize, new: &[u8]) -> Seen
     requires { at ≤ length page.now }
 {
-    let mut text = Vec::new(alloc);
-    text.extend_from_slice(&page[..at])?;
-    text.extend_from_slice(new)?;
-    text.extend_from_slice(page.get(at.saturating_add(old)..).unwrap_or(&[]))?;
-    Ok(read_page(&text))
-}
-
-// What is answered where up to `old` bytes are replaced by `new`, for each place in a page.
-pub fn read_everywhere(
-    alloc: Global,
-    page: &[u8],
-    old: usize,
-    new: &[u8],
-) -> Result<Vec<Seen>, AllocError> {
-    let mut all = Vec::new(alloc);
-    for at in 0..page.len() {
-        all.push(read_damaged(alloc, page, at, old, new)?)?;
+    if LONGEST < page.len() || LONGEST - page.len() < new.len() {
+        return read_page(&[]);
     }
-    Ok(all)
+    let rest = page.get(at.saturating_add(old)..).unwrap_or(&[]);
+    let next = at + new.len();
+    let end = next + rest.len();
+    let mut text = [0u8; LONGEST];
+    text[..at].copy_from_slice(&page[..at]);
+    text[at..next].copy_from_slice(new);
+    text[next..end].copy_from_slice(rest);
+    read_page(&text[..end])
 }
 
-// How many of them are this number.
-pub fn count(all: &[Seen], number: u64) -> usize {
-    all.iter().filter(|s| s.is_sound(number)).count()
+// The numbers that are counted, in the order in which they are printed.
+pub const NUMBERS: [u64; 5] = [17, 1, 6, 5, 0];
+
+// How often each of them is the answer where up to `old` bytes are replaced by `new`, of all places in a page; where it is, all is the same just if that is a refusal.
+pub fn read_everywhere(page: &[u8], old: usize, new: &[u8]) -> [usize; 5]
+    ensures { (k : ℕ) → slice_index_or result k 0 ≤ length page.now }
+{
+    let mut counts = [0; 5];
+    for at in 0..page.len() {
+        let seen = read_damaged(page, at, old, new);
+        if let Some(k) = seen.place() {
+            counts[k] += 1;
+        }
+    }
+    counts
 }

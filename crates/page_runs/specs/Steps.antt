@@ -1,6 +1,5 @@
 -- What is left to be printed, by where a run stands; the contracts of `begin`, `go_on` and `finish` say that a step leaves it as it is.
 use Rattle.std.specs.Prelude.{ℕ, ◌≤◌, ◌<◌, Bool, true, List, ◌++◌, ◌≡◌, take}
-use Rattle.std.proofs.Math.Option.{none}
 use Rattle.text.specs.Text.{read_literal}
 use Rattle.heap.specs.State.{State}
 use Rattle.heap.specs.Lent.{Lent, view, slot_count, pool_size}

@@ -274,21 +274,33 @@ impl Running {
     }
 }
 
-// ALL THAT IS PRINTED for an input, in parts that the buffer takes. `failed`: the input could not be read to its end.
-// Kept: a buffer of fixed size, as the library has no heap.
-pub fn print_all(input: &[u8], failed: bool, out: &mut [u8; 14592]) -> usize
+// All that is printed for an input, in parts that the lent buffer takes. What the buffer held before isn't looked at.
+pub fn print_all_with(
+    input: &[u8],
+    failed: bool,
+    buf: &mut [u8; 65536],
+    out: &mut [u8; 14592],
+) -> usize
     ensures { Ends (printed failed input.now) out.new result }
 {
     let mut running = Running::begin();
-    let mut buf = [0u8; 65536];
     let mut rest = input;
     // Kept: how much a turn takes is what the run leaves room for, so that no iterator gives the parts.
     while !rest.is_empty() {
         let held = running.run.held;
         let more = rest.len().min(65536 - held);
-        memory::copy(&mut buf, held, &rest[..more]);
-        running.go_on(&mut buf, held + more);
+        memory::copy(buf, held, &rest[..more]);
+        running.go_on(buf, held + more);
         rest = &rest[more..];
     }
-    running.finish(&buf, failed, out)
+    running.finish(buf, failed, out)
+}
+
+// ALL THAT IS PRINTED for an input. `failed`: the input could not be read to its end.
+// Kept: a buffer of fixed size, as the library has no heap.
+pub fn print_all(input: &[u8], failed: bool, out: &mut [u8; 14592]) -> usize
+    ensures { Ends (printed failed input.now) out.new result }
+{
+    let mut buf = [0u8; 65536];
+    print_all_with(input, failed, &mut buf, out)
 }

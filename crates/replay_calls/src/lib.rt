@@ -1,7 +1,7 @@
 // The commands of the program `replay` that ask a heap.
 #![tactic(auto)]
 
-use answers::{Hex, List, front, put_answer, put_told};
+use answers::{List, front, put_answer, put_hex, put_told};
 use fields::Fields;
 use protocol::{Fault, NoCommand};
 use refusal::Answer;
@@ -64,7 +64,7 @@ fn show_data(rt: &impl Print, kept: &Kept, i: usize) -> io::Result<()> {
     });
     put_told(rt, a, |from, length| {
         let rest = kept.pool.get(from as usize..).unwrap_or(&[]);
-        print!(rt; " {}", Hex(front(rest, length)))
+        put_hex(rt, front(rest, length))
     })
 }
 

@@ -4,7 +4,7 @@
 ghost use Rattle.std.specs.Prelude.{◌≡◌, IfErr};
 ghost use Rattle.protocol.specs.declared.Fault.TheVariants.{Bad};
 
-use answers::{Hex, front, put_answer, put_told};
+use answers::{front, put_answer, put_hex, put_told};
 use fields::Fields;
 use protocol::{Fault, NoCommand};
 use refusal::Answer;
@@ -130,11 +130,10 @@ fn put_filled(rt: &impl Print, last: Option<Answer>) -> io::Result<()> {
 fn show_taken(rt: &impl Print, kept: &mut Kept, handle: u64) -> io::Result<()> {
     let mut room = [0u8; 65536];
     let a = take(kept, handle, &mut room);
-    put_told(
-        rt,
-        a,
-        |length, start| print!(rt; " {} {start}", Hex(front(&room, length))),
-    )
+    put_told(rt, a, |length, start| {
+        put_hex(rt, front(&room, length))?;
+        print!(rt; " {start}")
+    })
 }
 
 /// Runs a line that changes an object. One that can't be read leaves the heap as it is.

@@ -1,5 +1,5 @@
 -- Bytes out of hexadecimal.
-use Prim.Native.Nat.{ℕ, zero, suc, ◌+◌, ◌-◌, ◌*◌, ◌/◌, ◌%◌, ◌<◌}
+use Prim.Native.Nat.{ℕ, zero, suc, ◌+◌, ◌*◌, ◌/◌, ◌%◌, ◌<◌}
 use Rattle.text.specs.Text.{Bytes, hex, hex_digit, newline}
 use Rattle.text.specs.Reading.{hex_digit_of, read_hex, give}
 use Rattle.text.specs.Inner.Answer.{hex_at, HexParsed, HexDigit}

@@ -1,5 +1,5 @@
 -- The laws of `putText`.
-use Prim.Native.Nat.{ℕ, ◌+◌, ◌-◌, ◌*◌, ◌/◌, ◌%◌, ◌≤◌, ◌<◌}
+use Prim.Native.Nat.{ℕ, ◌+◌, ◌*◌, ◌/◌, ◌%◌, ◌≤◌, ◌<◌}
 use Rattle.word.proofs.PutLaws.{put-none, length-put, put_one, put-put, take_put}
 use Rattle.word.specs.Put.{put}
 use Rattle.text.specs.Put.{put_text}

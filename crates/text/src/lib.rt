@@ -82,13 +82,15 @@ pub fn get_decimal(s: &[u8], at: usize, most: u64) -> Option<(u64, usize)>
 }
 
 // Puts bytes as they are from `at` on, and answers where they end.
+// Kept: with std's `copy_from_slice` the C archive would ask its host for `memmove`; of this loop the compiler makes `memcpy`.
 pub fn put_literal(out: &mut [u8], at: usize, literal: &[u8]) -> usize
     requires { at + length literal.now ≤ length out.old }
     ensures { Puts out.old out.new at result literal.now }
 {
-    let end = at + literal.len();
-    out[at..end].copy_from_slice(literal);
-    end
+    for i in 0..literal.len() {
+        out[at + i] = literal[i];
+    }
+    at + literal.len()
 }
 
 fn hex_digit_of(d: u8) -> u8

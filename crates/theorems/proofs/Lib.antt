@@ -2,6 +2,7 @@
 pub mod PageReading
 pub mod PageWriting
 pub mod HeapPageHeap
+pub mod KnownPages
 pub mod PageHeapPage
 pub mod PageBound
 pub mod PageLength

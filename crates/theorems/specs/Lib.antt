@@ -1,6 +1,7 @@
 -- The great theorems, one file each: what is claimed.
 pub mod PageCalls
 pub mod HeapPageHeap
+pub mod KnownPages
 pub mod PageHeapPage
 pub mod PageBound
 pub mod PageLength

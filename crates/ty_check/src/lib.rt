@@ -210,27 +210,22 @@ fn unfolds_exactly(table: &Table) -> bool
     unfolds_within(table, &mut counts, &mut other, &mut sums)
 }
 
-// The bound of the unfolding of type i.
-fn bound_type(table: &Table, counts: &[u32], i: usize, n: usize) -> u32
+// The bound of the unfolding of type i, and how many fields it has, which only says how long the pass below goes on.
+fn bound_type(table: &Table, counts: &[u32], i: usize, n: usize) -> (u32, usize)
     requires { i ≤ length counts.now }
-    ensures { result ≡ bound_by (bound_in counts.now i n) (type_at (types_of table.now.types.now table.now.fields.now) i) }
+    ensures { result.0 ≡ bound_by (bound_in counts.now i n) (type_at (types_of table.now.types.now table.now.fields.now) i) }
 {
     let Some(e) = table.ty_at(i as u64) else {
-        return 1;
+        return (1, 0);
     };
     match e {
-        Entry::Array { elem, .. } => capped(1, bound_at(counts, i, n, elem)),
-        Entry::Record { first, count } => bound_fields(table.fields, counts, i, n, first, count),
-        _ => 1,
+        Entry::Array { elem, .. } => (capped(1, bound_at(counts, i, n, elem)), 0),
+        Entry::Record { first, count } => {
+            let bound = bound_fields(table.fields, counts, i, n, first, count);
+            (bound, count)
+        }
+        _ => (1, 0),
     }
-}
-
-// How many fields type i has: it only says how long the pass below goes on.
-fn fields_in(table: &Table, i: usize) -> usize {
-    let Some(Entry::Record { count, .. }) = table.ty_at(i as u64) else {
-        return 0;
-    };
-    count
 }
 
 // Whether one pass over the types shows that every unfolding is within the bound. It does where each type comes after those that it is made of and no field
@@ -242,11 +237,10 @@ fn unfolds_in_order(table: &Table, counts: &mut [u32]) -> bool
     let n = table.types.len() / 4;
     let mut room = table.fields.len() / 2;
     for i in 0..n {
-        let k = fields_in(table, i);
+        let (b, k) = bound_type(table, counts, i, n);
         if room < k {
             return false;
         }
-        let b = bound_type(table, counts, i, n);
         if 65536 < b {
             return false;
         }

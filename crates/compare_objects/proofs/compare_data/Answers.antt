@@ -9,8 +9,7 @@ returns-in_default c = record { value = data-traced _ _ _ _ _ _ _ _ _ _ _ _ _ c.
 
 pub returns : goal.returns
 returns c =
-    let two = c.then-2.ensures ∙ (λ i. c.then.ensures i and_then c.compare_bytes-last.result) in
     record {
-      value = c.then-3.ensures ∙ (λ i. two i and_then c.order_of-handles.result) ∙ data_is _ _ _ _ _ _ _ _ _ _ _ _ _ c.trace_beside-r.ensures c.requires.fact _ c.in-Some.is c.requires.even _ c.min-from.ensures _ _ _ _ c.compare_bytes-hidden.ensures c.order_of-shown.ensures c.compare_bytes-last.ensures c.order_of-handles.ensures;
+      value = c.then-2.ensures ∙ (λ i. c.then.ensures i and_then c.order_of-handles.result) ∙ data_is _ _ _ _ _ _ _ _ _ _ _ _ _ c.trace_beside-r.ensures c.requires.fact _ c.in-Some.is c.requires.even _ c.min-from.ensures _ _ _ _ c.compare_bytes-hidden.ensures c.order_of-before.ensures c.then_bytes-shown.ensures c.order_of-handles.ensures;
       work_unchanged = data-kept _ _ _ _ _ _ _ _ _ _ _ _ _ c.trace_beside-r.ensures c.requires.fact _ c.in-Some.is;
     }

@@ -14,8 +14,8 @@ returns-then-not-slots_ok c = no_more c.slots_ok.ensures c.if-not-slots_ok.true 
 pub begins-requires : goal.begins-requires
 begins-requires c = omega (arith, c.requires.header_ok, c.args.of.sizes)
 
-pub returns-then-not-all_are : goal.returns-then-not-all_are
-returns-then-not-all_are c = no-more-zeros c.begins.result c.args.of.pool.now c.all_are.ensures c.if-not-all_are.true (λ y. rw c.begins.ensures y.pool)
+pub returns-then-not-all_zero : goal.returns-then-not-all_zero
+returns-then-not-all_zero c = no-more-zeros c.begins.result c.args.of.pool.now c.all_zero.ensures c.if-not-all_zero.true (λ y. rw c.begins.ensures y.pool)
 
 pub slice_bounds-seals_ok-end : goal.slice_bounds-seals_ok-end
 slice_bounds-seals_ok-end c = sym (length-take-le _ _ (omega (arith, c.requires.header_ok, c.args.of.sizes)))
@@ -39,7 +39,7 @@ pub returns : goal.returns
 returns c = says-last c.lists_ok.ensures (λ z. record {
   unused = holds c.unused_ok.ensures c.if-not-unused_ok.false;
   slots = holds c.slots_ok.ensures c.if-not-slots_ok.false;
-  pool = rw (sym c.begins.ensures) (holds-zeros c.begins.result c.args.of.pool.now c.all_are.ensures c.if-not-all_are.false);
+  pool = rw (sym c.begins.ensures) (holds-zeros c.begins.result c.args.of.pool.now c.all_zero.ensures c.if-not-all_zero.false);
   seals = sym c.seals_ok.ensures ∙ c.if-not-seals_ok.false;
   lists = z;
 }) (λ y. y.lists)

@@ -1,9 +1,16 @@
 -- `memory::copy` meets its contract.
-use Rattle.std.proofs.Common.{arith, refl}
-use Rattle.std.proofs.lemmas.Slice.{put_mid-paste}
-use Rattle.word.specs.Put.{put}
+use Rattle.std.proofs.Common.{rules, ap, ◌∙◌, ◌+◌}
+use mathlib.Core.Path.{refl}
+use lib.ListN.{set}
+use Rattle.word.proofs.PutLaws.{put-none, copy-turn}
 use Rattle.memory.proofs.copy.Goals as goal
 
-pub returns : goal.returns
-unfolding put
-returns g c = put_mid-paste _ _ _ _ _ _ c.copy_from_slice.ensures.after (omega arith) refl
+pub loop-j-init : goal.loop-j-init
+loop-j-init g c = (put-none _ _ _, refl)
+
+pub loop-j-preserved : goal.loop-j-preserved
+loop-j-preserved g c = (
+  ap (λ x. set c.loop-j.dst (c.args.at + c.loop-j.j) x) c.index-src-j.is
+      ∙ copy-turn _ _ _ _ _ c.index-src-j.result c.loop-j.invariant.0 (search rules) (search rules),
+  search rules,
+)

@@ -1,9 +1,9 @@
--- `answers::put_page` meets its contract.
+-- `answers::fold` meets its contract.
 use mathlib.Core.Path.{◌≡◌}
 use mathlib.Core.List.{◌++◌, map}
 use lib.ListN.{take, drop}
 use Rattle.answers.specs.Inner.Folding.{folded}
-use Rattle.answers.proofs.put_page.Given as goal
+use Rattle.answers.proofs.fold.Given as goal
 
 abbrev pub invariant-loop-b : goal.invariant-loop-b
-invariant-loop-b g l = l.page ≡ map folded (take l.b-index l.fn.page) ++ drop l.b-index l.fn.page
+invariant-loop-b l = l.text ≡ map folded (take l.b-index l.fn.text) ++ drop l.b-index l.fn.text

@@ -1,6 +1,6 @@
 use native.Mathlib.Omega.{arith}
 use Rattle.page_runs.proofs.Going.{going-first, going_on}
-use Rattle.page_runs.proofs.print_all.Goals as goal
+use Rattle.page_runs.proofs.print_all_with.Goals as goal
 
 pub loop-rest-init : goal.loop-rest-init
 loop-rest-init c = going-first _ _ c.begin-running.ensures

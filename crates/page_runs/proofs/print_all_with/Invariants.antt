@@ -2,7 +2,7 @@
 use lib.ListN.{length}
 use Rattle.page_runs.specs.Inner.Held.{lies}
 use Rattle.page_runs.proofs.Going.{Going}
-use Rattle.page_runs.proofs.print_all.Given as goal
+use Rattle.page_runs.proofs.print_all_with.Given as goal
 
 abbrev pub invariant-loop-rest : goal.invariant-loop-rest
 invariant-loop-rest l = Going l.input l.running.run (lies l.running) l.buf l.rest
