@@ -4,7 +4,7 @@
 use replay_lines::{LONGEST, State};
 use std::alloc::Global;
 use std::io;
-use std::io::{BufRead, Read};
+use std::io::{BufRead, BufReader, Read};
 
 // Reads a line without its end; none where the input has ended. Of one that is too long the first `LONGEST` bytes are kept, and the rest is passed over.
 fn read_line(reader: &mut impl BufRead, alloc: Global) -> io::Result<Option<Vec<u8>>> {
@@ -26,7 +26,8 @@ fn read_line(reader: &mut impl BufRead, alloc: Global) -> io::Result<Option<Vec<
 }
 
 fn main(rt: HostRuntime) -> io::Result<()> {
-    let mut reader = rt.reader();
+    // A buffer of its own: the reader that `rt` has takes one byte at a time from a pipe.
+    let mut reader = BufReader::new(rt.alloc(), rt.stdin())?;
     let mut state = State::new(rt.alloc());
     state.begin()?;
     for _ in 0..u64::MAX {

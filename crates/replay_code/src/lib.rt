@@ -10,7 +10,7 @@ use std::alloc::Global;
 use std::str::FromStr;
 
 /// The most instructions, registers and targets of all instructions, registers of the function, and numbers for its blocks.
-const MOST_KINDS: usize = 65536;
+const MOST_KINDS: usize = 65535;
 
 const MOST_REFS: usize = 65536;
 
@@ -106,6 +106,10 @@ impl Function {
         let b = a.saturating_add(read.len());
         let c = b.saturating_add(targets.len());
         let ends = [place(a)?, place(b)?, place(c)?];
+        if self.ends.is_empty() {
+            // Room for the ends of all instructions at once: a list that grows by doubling takes more.
+            self.ends = Vec::with_capacity(line.alloc(), 3 * MOST_KINDS)?;
+        }
         self.kinds.push(kind)?;
         self.ends.extend_from_slice(&ends)?;
         self.refs.extend_from_slice(written.as_slice())?;

@@ -11,8 +11,8 @@ use door::Done;
 use fields::Fields;
 use protocol::{Fault, HALF, NoCommand, WORD};
 use replay_code::Function;
+use replay_kept::Kept;
 use replay_kept::table::Table;
-use replay_kept::{Kept, Scratch};
 use std::str::FromStr;
 use yexwalu::heaps;
 
@@ -78,7 +78,8 @@ impl Safepoint {
 
 // The plain collection.
 fn collect(kept: &mut Kept, t: &Table, roots: &[u64], pins: &[u32]) -> Done {
-    let mut s = Scratch::new();
+    let mut marks = [7u8; 8192];
+    let mut work = [7u64; 8192];
     heaps::collect(
         &t.types,
         &t.fields,
@@ -90,14 +91,15 @@ fn collect(kept: &mut Kept, t: &Table, roots: &[u64], pins: &[u32]) -> Done {
         &mut kept.pool,
         roots,
         pins,
-        &mut s.marks,
-        &mut s.work,
+        &mut marks,
+        &mut work,
     )
 }
 
 // The joined collection.
 fn collect_joined(kept: &mut Kept, t: &Table, code: &Function, at: &Safepoint) -> Done {
-    let mut s = Scratch::new();
+    let mut marks = [7u8; 8192];
+    let mut work = [7u64; 8192];
     // Kept: an array, scratch of one call; a `Vec` would only add a way to fail.
     let mut rows = [7u64; 131072];
     heaps::collect_joined(
@@ -120,8 +122,8 @@ fn collect_joined(kept: &mut Kept, t: &Table, code: &Function, at: &Safepoint) -
         &at.memory,
         &at.pins,
         &at.addresses,
-        &mut s.marks,
-        &mut s.work,
+        &mut marks,
+        &mut work,
         &mut rows,
     )
 }

@@ -1,9 +1,9 @@
 // The command of the program `replay` that rehearses collection thresholds, in memory of its own: the heap of the script stays as it is.
 use answers::{put_page, put_told};
 use fields::Fields;
+use heap::Heap;
 use protocol::{Fault, WORD};
 use refusal::Answer;
-use replay_kept::Kept;
 use replay_kept::table::Table;
 use yexwalu::heaps;
 
@@ -19,9 +19,19 @@ const MOST_THRESHOLDS: usize = 256;
 
 const MOST_PRINTED: usize = 20480;
 
-// The call, with scratch of its own.
-fn rehearse(kept: &mut Kept, t: &Table, text: &[u8], thresholds: &[u64], out: &mut [u8]) -> Answer {
-    // Kept: arrays, here and below: scratch and room of one call; a `Vec` would only add a way to fail.
+// The call, with a heap of so many slots and bytes, of at most as many as a line may ask for, and scratch of its own.
+fn rehearse(
+    slots: usize,
+    pool: usize,
+    t: &Table,
+    text: &[u8],
+    thresholds: &[u64],
+    out: &mut [u8],
+) -> Answer {
+    // Kept: arrays, here and below: memory, scratch and room of one call. With `Vec`s each line would ask for up to 180 KB, and take over three times as long.
+    let mut narrow = [0u32; 12288];
+    let mut wide = [0u64; 8192];
+    let mut bytes = [0u8; 65536];
     let mut names = [7u64; 4096];
     let mut marks = [7u8; 2048];
     let mut work = [7u64; 2048];
@@ -30,10 +40,10 @@ fn rehearse(kept: &mut Kept, t: &Table, text: &[u8], thresholds: &[u64], out: &m
         &t.fields,
         &t.consts,
         &t.bytes,
-        kept.heap,
-        &mut kept.narrow,
-        &mut kept.wide,
-        &mut kept.pool,
+        Heap::new(1),
+        &mut narrow[..6 * slots.min(2048)],
+        &mut wide[..4 * slots.min(2048)],
+        &mut bytes[..pool.min(65536)],
         text,
         thresholds,
         out,
@@ -50,9 +60,8 @@ pub fn answer(rt: &impl Print, line: &mut Fields, t: &Table) -> Result<(), Fault
     let pool = line.count(MOST_POOL)?;
     let thresholds = line.words(WORD, MOST_THRESHOLDS)?;
     let text = line.script()?;
-    let mut kept = Kept::new(line.alloc(), slots, pool)?;
     let mut out = [7u8; MOST_PRINTED];
-    let a = rehearse(&mut kept, t, &text, &thresholds, &mut out);
+    let a = rehearse(slots, pool, t, &text, &thresholds, &mut out);
     put_told(rt, a, |length, _| match length {
         0 => print!(rt; " -"),
         _ => put_page(rt, &mut out, length),

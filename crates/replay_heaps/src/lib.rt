@@ -7,9 +7,11 @@ ghost use Rattle.protocol.specs.declared.Fault.TheVariants.{Bad};
 use answers::{put_answer, put_told};
 use door::Done;
 use fields::Fields;
+use heap::Heap;
 use protocol::{Fault, NoCommand};
 use refusal::Answer;
-use replay_kept::{Kept, MOST_POOL, MOST_SLOTS, Scratch};
+use replay_kept::{Kept, MOST_POOL, MOST_SLOTS};
+use std::alloc::{AllocError, Global};
 use std::io;
 use std::str::FromStr;
 use yexwalu::heaps;
@@ -36,13 +38,46 @@ impl FromStr for Command {
     }
 }
 
-// The answer of a call that makes a heap in memory of its own: one that is refused leaves the heap that was there.
-fn settle_new(kept: &mut Kept, mut new: Kept, done: Done) -> Answer {
+// The answer of a call that makes a heap of these sizes: one that is refused leaves the heap that was there. Where that has the same sizes it is made in its memory, which a refusal leaves as it was.
+fn settle_new<F: FnOnce(Heap, &mut [u32], &mut [u64], &mut [u8], &mut [u8], &mut [u64]) -> Done>(
+    kept: &mut Kept,
+    alloc: Global,
+    slots: usize,
+    pool: usize,
+    call: F,
+) -> Result<Answer, AllocError>
+    requires { F.IsAlwaysCallable call }
+{
+    let mut marks = [7u8; 8192];
+    let mut work = [7u64; 8192];
+    if kept.has_sizes(slots, pool) {
+        let done = call(
+            kept.heap,
+            &mut kept.narrow,
+            &mut kept.wide,
+            &mut kept.pool,
+            &mut marks,
+            &mut work,
+        );
+        if done.answer.number == 0 {
+            kept.heap = done.heap;
+        }
+        return Ok(done.answer);
+    }
+    let mut new = Kept::new(alloc, slots, pool)?;
+    let done = call(
+        kept.heap,
+        &mut new.narrow,
+        &mut new.wide,
+        &mut new.pool,
+        &mut marks,
+        &mut work,
+    );
     if done.answer.number == 0 {
         new.heap = done.heap;
         *kept = new;
     }
-    done.answer
+    Ok(done.answer)
 }
 
 // The most slots of a log as a line has it.
@@ -55,17 +90,14 @@ fn make(line: &mut Fields, kept: &mut Kept) -> Result<Answer, Fault>
     let tag = line.byte()?;
     let slots = line.count(MOST_SLOTS)?;
     let pool = line.count_or(MOST_POOL)?;
-    let mut new = Kept::new(line.alloc(), slots, pool)?;
-    let mut s = Scratch::new();
-    let done = heaps::new(
-        tag,
-        &mut new.narrow,
-        &mut new.wide,
-        &mut new.pool,
-        &mut s.marks,
-        &mut s.work,
-    );
-    Ok(settle_new(kept, new, done))
+    let answer = settle_new(
+        kept,
+        line.alloc(),
+        slots,
+        pool,
+        |_, narrow, wide, pool, marks, work| { heaps::new(tag, narrow, wide, pool, marks, work) },
+    )?;
+    Ok(answer)
 }
 
 // Slots, a page, and the pool.
@@ -75,18 +107,16 @@ fn load(line: &mut Fields, kept: &mut Kept) -> Result<Answer, Fault>
     let slots = line.count(MOST_SLOTS)?;
     let text = line.page()?;
     let pool = line.count_or(MOST_POOL)?;
-    let mut new = Kept::new(line.alloc(), slots, pool)?;
-    let mut s = Scratch::new();
-    let done = yexwalu::page::read_page(
-        kept.heap,
-        &mut new.narrow,
-        &mut new.wide,
-        &mut new.pool,
-        &text,
-        &mut s.marks,
-        &mut s.work,
-    );
-    Ok(settle_new(kept, new, done))
+    let answer = settle_new(
+        kept,
+        line.alloc(),
+        slots,
+        pool,
+        |heap, narrow, wide, pool, marks, work| {
+            yexwalu::page::read_page(heap, narrow, wide, pool, &text, marks, work)
+        },
+    )?;
+    Ok(answer)
 }
 
 // The epoch and a log of 16 slots, which stand in the header.

@@ -1,7 +1,7 @@
 // What the program `replay` keeps from line to line: a heap, and the type table that lines make; and how a call is lent a heap and scratch.
 #![tactic(auto)]
 
-ghost use Rattle.std.specs.Prelude.{◌≡◌, [], length, replicate, IfOk};
+ghost use Rattle.std.specs.Prelude.{◌≡◌, [], length, true, IfOk};
 ghost use Rattle.heap.specs.Lent.{header_of};
 ghost use Rattle.heap.specs.Calls.{new as new_heap};
 
@@ -50,43 +50,35 @@ impl Kept {
         kept.pool = vec![in alloc; 0; pool]?;
         Ok(kept)
     }
-}
 
-/// What a call is lent as scratch. It holds 7 everywhere, since no call may rely on what it finds there.
-// Kept: arrays, here and where a call of the front door is lent room for its answer: they last for one call and never change their length. With `vec![in alloc; 7; 8192]?` in their place
-// `new`, `ask` and all that go through them, 24 calls in the crates of commands, would answer a `Result` for memory that can't run out now.
-#[derive(Clone, Copy)]
-pub struct Scratch {
-    pub marks: [u8; 8192],
-    pub work: [u64; 8192],
-}
-
-impl Scratch {
-    pub fn new() -> Scratch
-        ensures { (result.marks ≡ replicate 8192 7) × (result.work ≡ replicate 8192 7) }
+    /// Has its memory room for so many slots and bytes, no more and no fewer?
+    pub fn has_sizes(&self, slots: usize, pool: usize) -> bool
+        ensures { result ≡ true → length self.now.pool.items ≡ pool }
     {
-        Scratch {
-            marks: [7; 8192],
-            work: [7; 8192],
-        }
+        self.narrow.len() == slots.saturating_mul(6)
+            && self.wide.len() == slots.saturating_mul(4)
+            && self.pool.len() == pool
     }
 }
 
-/// What a call answers that is lent the heap and scratch.
+/// What a call answers that is lent the heap and scratch. The scratch holds 7 everywhere, since no call may rely on what it finds there.
+// Kept: arrays, here and where a call of the front door is lent room for its answer: they last for one call and never change their length. With `vec![in alloc; 7; 8192]?` in their place
+// `ask` and all that go through it would answer a `Result` for memory that can't run out now. A function that answers both would have them copied.
 pub fn ask<F: FnOnce(Heap, &[u32], &[u64], &[u8], &mut [u8], &mut [u64]) -> Answer>(
     kept: &Kept,
     call: F,
 ) -> Answer
     requires { F.IsAlwaysCallable call }
 {
-    let mut s = Scratch::new();
+    let mut marks = [7u8; 8192];
+    let mut work = [7u64; 8192];
     call(
         kept.heap,
         &kept.narrow,
         &kept.wide,
         &kept.pool,
-        &mut s.marks,
-        &mut s.work,
+        &mut marks,
+        &mut work,
     )
 }
 
@@ -97,14 +89,15 @@ pub fn settle<F: FnOnce(Heap, &mut [u32], &mut [u64], &mut [u8], &mut [u8], &mut
 ) -> Answer
     requires { F.IsAlwaysCallable call }
 {
-    let mut s = Scratch::new();
+    let mut marks = [7u8; 8192];
+    let mut work = [7u64; 8192];
     let done = call(
         kept.heap,
         &mut kept.narrow,
         &mut kept.wide,
         &mut kept.pool,
-        &mut s.marks,
-        &mut s.work,
+        &mut marks,
+        &mut work,
     );
     kept.heap = done.heap;
     done.answer

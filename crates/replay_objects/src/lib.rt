@@ -8,7 +8,7 @@ use answers::{front, put_answer, put_hex, put_told};
 use fields::Fields;
 use protocol::{Fault, NoCommand};
 use refusal::Answer;
-use replay_kept::{Kept, Scratch, settle};
+use replay_kept::{Kept, settle};
 use std::io;
 use std::str::FromStr;
 use yexwalu::heaps;
@@ -63,8 +63,24 @@ fn fill(line: &mut Fields, kept: &mut Kept) -> Result<Option<Answer>, Fault>
     ensures { IfErr result (λ e. e ≡ Bad → kept.new ≡ kept.old) }
 {
     let mut last = None;
+    // The scratch is lent to all of them: each call leaves it zero, and relies on nothing that it finds there.
+    let mut marks = [7u8; 8192];
+    let mut work = [7u64; 8192];
     for _ in 0..line.word()? {
-        last = Some(place(kept, 2, 0, 0, b""));
+        let done = heaps::alloc_from(
+            kept.heap,
+            &mut kept.narrow,
+            &mut kept.wide,
+            &mut kept.pool,
+            2,
+            0,
+            0,
+            b"",
+            &mut marks,
+            &mut work,
+        );
+        kept.heap = done.heap;
+        last = Some(done.answer);
     }
     Ok(last)
 }
@@ -88,7 +104,8 @@ fn write(line: &mut Fields, kept: &mut Kept) -> Result<Answer, Fault>
     let slot = line.slot()?;
     let offset = line.word()? as usize;
     let bytes = line.bytes()?;
-    let mut s = Scratch::new();
+    let mut marks = [7u8; 8192];
+    let mut work = [7u64; 8192];
     Ok(heaps::write(
         kept.heap,
         &kept.narrow,
@@ -97,8 +114,8 @@ fn write(line: &mut Fields, kept: &mut Kept) -> Result<Answer, Fault>
         slot,
         offset,
         &bytes,
-        &mut s.marks,
-        &mut s.work,
+        &mut marks,
+        &mut work,
     ))
 }
 

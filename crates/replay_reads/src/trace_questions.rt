@@ -3,8 +3,8 @@ use answers::{List, front, put_told};
 use fields::Fields;
 use protocol::{Fault, NoCommand};
 use refusal::Answer;
+use replay_kept::Kept;
 use replay_kept::table::Table;
-use replay_kept::{Kept, Scratch};
 use std::io;
 use std::str::FromStr;
 use yexwalu::{handles, heaps};
@@ -39,9 +39,10 @@ fn put_list(rt: &impl Print, a: Answer, out: &[u64]) -> io::Result<()> {
 
 // The handles of a slot. An object of the longest pool shows 8,192 handles at most.
 fn show_handles(rt: &impl Print, kept: &Kept, t: &Table, slot: usize) -> io::Result<()> {
-    // Kept: an array, here and below, as `Scratch` has them.
+    // Kept: arrays, here and below, as in `replay_kept::ask`.
     let mut out = [7u64; 8192];
-    let mut s = Scratch::new();
+    let mut marks = [7u8; 8192];
+    let mut work = [7u64; 8192];
     let a = handles::slot_handles(
         &t.types,
         &t.fields,
@@ -53,8 +54,8 @@ fn show_handles(rt: &impl Print, kept: &Kept, t: &Table, slot: usize) -> io::Res
         &kept.pool,
         slot,
         &mut out,
-        &mut s.marks,
-        &mut s.work,
+        &mut marks,
+        &mut work,
     );
     put_list(rt, a, &out)
 }
@@ -68,7 +69,8 @@ fn show_roots(
     wanted: &[u32],
 ) -> io::Result<()> {
     let mut out = [7u64; 8192];
-    let mut s = Scratch::new();
+    let mut marks = [7u8; 8192];
+    let mut work = [7u64; 8192];
     let a = heaps::roots_for(
         &t.types,
         &t.fields,
@@ -81,15 +83,16 @@ fn show_roots(
         pins,
         wanted,
         &mut out,
-        &mut s.marks,
-        &mut s.work,
+        &mut marks,
+        &mut work,
     );
     put_list(rt, a, &out)
 }
 
 // Whether the heap and the table fit together.
 fn traceable(kept: &Kept, t: &Table) -> Answer {
-    let mut s = Scratch::new();
+    let mut marks = [7u8; 8192];
+    let mut work = [7u64; 8192];
     handles::traceable(
         &t.types,
         &t.fields,
@@ -99,8 +102,8 @@ fn traceable(kept: &Kept, t: &Table) -> Answer {
         &kept.narrow,
         &kept.wide,
         &kept.pool,
-        &mut s.marks,
-        &mut s.work,
+        &mut marks,
+        &mut work,
     )
 }
 

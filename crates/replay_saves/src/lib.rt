@@ -1,15 +1,15 @@
 // The commands of the program `replay` on two heaps, the current one and the other: they change places, or they are compared.
 #![tactic(auto)]
 
-ghost use Rattle.std.specs.Prelude.{◌≡◌, ◌≢◌};
+ghost use Rattle.std.specs.Prelude.{◌≡◌, ◌≢◌, ◌≤◌};
 ghost use Rattle.replay_saves.specs.declared.Command.TheVariants.{Swap};
 
 use answers::{put_answer, put_told};
 use fields::Fields;
 use protocol::{Fault, NoCommand, WORD};
 use refusal::Answer;
+use replay_kept::Kept;
 use replay_kept::table::Table;
-use replay_kept::{Kept, Scratch};
 use std::str::FromStr;
 use std::{io, mem};
 use yexwalu::heaps;
@@ -54,11 +54,22 @@ impl Roots {
     }
 }
 
+// How many slots a heap's memory has: so much of the scratch is lent, since a call clears all that it is lent.
+fn slots_of(kept: &Kept) -> usize
+    ensures { result ≤ 8192 }
+{
+    (kept.narrow.len() / 6).min(8192)
+}
+
 // Kept: apart from `order`: a bound such as `FnOnce(..) -> Answer` of more than twelve arguments is refused, and the two calls have eighteen; closures over one struct of all that is lent
 // would each write out the eighteen again.
 fn same(kept: &Kept, other: &Kept, t: &Table, roots: &Roots) -> Answer {
-    let mut s = Scratch::new();
-    let mut z = Scratch::new();
+    let mut marks = [7u8; 8192];
+    let mut work = [7u64; 8192];
+    let mut other_marks = [7u8; 8192];
+    let mut other_work = [7u64; 8192];
+    let here = slots_of(kept);
+    let there = slots_of(other);
     heaps::same(
         &t.types,
         &t.fields,
@@ -74,16 +85,20 @@ fn same(kept: &Kept, other: &Kept, t: &Table, roots: &Roots) -> Answer {
         &other.pool,
         &roots.here,
         &roots.there,
-        &mut s.marks,
-        &mut s.work,
-        &mut z.marks,
-        &mut z.work,
+        &mut marks[..here],
+        &mut work[..here],
+        &mut other_marks[..there],
+        &mut other_work[..there],
     )
 }
 
 fn order(kept: &Kept, other: &Kept, t: &Table, roots: &Roots) -> Answer {
-    let mut s = Scratch::new();
-    let mut z = Scratch::new();
+    let mut marks = [7u8; 8192];
+    let mut work = [7u64; 8192];
+    let mut other_marks = [7u8; 8192];
+    let mut other_work = [7u64; 8192];
+    let here = slots_of(kept);
+    let there = slots_of(other);
     heaps::order(
         &t.types,
         &t.fields,
@@ -99,10 +114,10 @@ fn order(kept: &Kept, other: &Kept, t: &Table, roots: &Roots) -> Answer {
         &other.pool,
         &roots.here,
         &roots.there,
-        &mut s.marks,
-        &mut s.work,
-        &mut z.marks,
-        &mut z.work,
+        &mut marks[..here],
+        &mut work[..here],
+        &mut other_marks[..there],
+        &mut other_work[..there],
     )
 }
 

@@ -5,11 +5,10 @@ ghost use Rattle.std.specs.Prelude.{◌≡◌, ◌≢◌, IfErr};
 ghost use Rattle.protocol.specs.declared.Fault.TheVariants.{Bad};
 ghost use Rattle.replay_tables.specs.declared.Command.TheVariants.{Write};
 
-use answers::{put_page, put_told};
+use answers::{front, put_page, put_told};
 use fields::Fields;
 use protocol::{Fault, NoCommand};
 use replay_kept::table::{MOST_BYTES, MOST_CONSTS, MOST_FIELDS, MOST_TYPES, Table};
-use std::alloc::{AllocError, Global};
 use std::io;
 use std::str::FromStr;
 use yexwalu::{TableRead, table_text};
@@ -32,27 +31,23 @@ impl FromStr for Command {
     }
 }
 
-// As much of each list as a table takes at most.
-fn longest(alloc: Global) -> Result<Table, AllocError> {
-    Ok(Table {
-        types: vec![in alloc; 7; MOST_TYPES]?,
-        fields: vec![in alloc; 7; MOST_FIELDS]?,
-        consts: vec![in alloc; 7; MOST_CONSTS]?,
-        bytes: vec![in alloc; 7; MOST_BYTES]?,
-    })
-}
-
 // The call, with names and scratch of its own.
-fn call(t: &mut Table, text: &[u8]) -> TableRead {
-    // Kept: arrays, here and below: scratch and room of one call; a `Vec` would only add a way to fail.
+// Kept: arrays, here and below: scratch and room of one call. With `Vec`s each line would ask for 425 KB, and take three times as long.
+fn call(
+    types: &mut [u64],
+    fields: &mut [u32],
+    consts: &mut [u64],
+    bytes: &mut [u8],
+    text: &[u8],
+) -> TableRead {
     let mut names = [7u8; 65536];
     let mut words = [7u64; 28672];
     let mut halves = [7u32; 32768];
     table_text::read_table(
-        &mut t.types,
-        &mut t.fields,
-        &mut t.consts,
-        &mut t.bytes,
+        types,
+        fields,
+        consts,
+        bytes,
         &mut names,
         text,
         &mut words,
@@ -64,9 +59,13 @@ fn call(t: &mut Table, text: &[u8]) -> TableRead {
 fn read(rt: &impl Print, line: &mut Fields, table: &mut Table) -> Result<(), Fault>
     ensures { IfErr result (λ e. e ≢ Bad) }
 {
+    let alloc = line.alloc();
     let text = line.text()?;
-    let mut new = longest(line.alloc())?;
-    let r = call(&mut new, &text);
+    let mut types = [7u64; MOST_TYPES];
+    let mut fields = [7u32; MOST_FIELDS];
+    let mut consts = [7u64; MOST_CONSTS];
+    let mut bytes = [7u8; MOST_BYTES];
+    let r = call(&mut types, &mut fields, &mut consts, &mut bytes, &text);
     if r.answer.number != 0 {
         println!(rt; "{}", r.answer.number)?;
         return Ok(());
@@ -75,11 +74,12 @@ fn read(rt: &impl Print, line: &mut Fields, table: &mut Table) -> Result<(), Fau
         "0 {} {} {} {} {}",
         r.types, r.fields, r.consts, r.bytes, r.names
     )?;
-    new.types.truncate(r.types);
-    new.fields.truncate(r.fields);
-    new.consts.truncate(r.consts);
-    new.bytes.truncate(r.bytes);
-    *table = new;
+    *table = Table {
+        types: Vec::from_slice(alloc, front(&types, r.types as u64))?,
+        fields: Vec::from_slice(alloc, front(&fields, r.fields as u64))?,
+        consts: Vec::from_slice(alloc, front(&consts, r.consts as u64))?,
+        bytes: Vec::from_slice(alloc, front(&bytes, r.bytes as u64))?,
+    };
     Ok(())
 }
 
