@@ -25,6 +25,22 @@ impl<'a, T: Display> Display for List<'a, T> {
     }
 }
 
+/// Bytes in hexadecimal; `-` for none. `put_hex` writes a large object's in less time.
+#[derive(Clone, Copy)]
+pub struct Hex<'a>(pub &'a [u8]);
+
+impl<'a> Display for Hex<'a> {
+    fn fmt<W: fmt::Write>(&self, f: &mut fmt::Formatter<W>) -> fmt::Result {
+        if self.0.is_empty() {
+            return write!(f, "-");
+        }
+        for b in self.0 {
+            write!(f, "{b:02x}")?;
+        }
+        Ok(())
+    }
+}
+
 /// The first `count` entries of a list, as many as there are.
 pub fn front<T>(s: &[T], count: u64) -> &[T]
     ensures { result.now ≡ take count s.now }
@@ -74,13 +90,23 @@ fn fold(text: &mut [u8])
 }
 
 /// A space, then the first `length` bytes of a page on one line. These are changed, and the clause says to which; what is written no clause can name.
-pub fn put_page(rt: &impl Print, page: &mut [u8], length: u64) -> io::Result<()>
+pub fn put_page_front(rt: &impl Print, page: &mut [u8], length: u64) -> io::Result<()>
     ensures { page.new ≡ map folded (take length page.old) ++ drop length page.old }
 {
     let n = page.len().min(length as usize);
     fold(&mut page[..n]);
     print!(rt; " ")?;
     rt.write_all(&page[..n])
+}
+
+/// Writes what `put_page_front` writes. All of the lent page is changed, also what is behind the
+/// first `length` bytes.
+pub fn put_page(rt: &impl Print, page: &mut [u8], length: u64) -> io::Result<()>
+    ensures { page.new ≡ map folded page.old }
+{
+    let n = page.len().min(length as usize);
+    fold(&mut page[n..]);
+    put_page_front(rt, page, n as u64)
 }
 
 /// A space, then bytes in hexadecimal; `-` for none.
@@ -96,4 +122,29 @@ pub fn put_hex(rt: &impl Print, bytes: &[u8]) -> io::Result<()> {
         rt.write_all(front(&room, n as u64))?;
     }
     Ok(())
+}
+
+#[cfg(test)]
+mod tests {
+    use super::*;
+
+    #[test]
+    fn spells_bytes(rt: HostRuntime) -> io::Result<()> {
+        for (bytes, spelled) in [(b"" as &[u8], "-"), (b"\x00\x0a\xff", "000aff")] {
+            let text = format!(in rt.alloc(); "{}", Hex(bytes))?;
+            assert_eq!(rt; text.as_str(), spelled);
+        }
+        Ok(())
+    }
+
+    #[test]
+    fn changes_all_of_a_page(rt: HostRuntime) -> io::Result<()> {
+        let mut page = *b"1\n2\n3\n";
+        put_page(&rt, &mut page, 4)?;
+        assert_eq!(rt; page, *b"1;2;3;");
+        let mut page = *b"1\n2\n3\n";
+        put_page_front(&rt, &mut page, 4)?;
+        assert_eq!(rt; page, *b"1;2;3\n");
+        Ok(())
+    }
 }

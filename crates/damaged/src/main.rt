@@ -7,7 +7,7 @@
 
 ghost use Rattle.std.specs.Prelude.{◌≤◌, length, IfOk};
 
-use page_damage::{NUMBERS, find, read_damaged, read_everywhere};
+use page_damage::{NUMBERS, count_everywhere, find, read_damaged_limited};
 use std::io;
 use std::io::Read;
 
@@ -17,13 +17,13 @@ fn damage(rt: &impl Print, name: &[u8], page: &[u8], old: &[u8], new: &[u8]) -> 
     let Some(at) = find(page, old) else {
         return println!(rt; ": not there");
     };
-    let seen = read_damaged(page, at, old.len(), new);
+    let seen = read_damaged_limited(page, at, old.len(), new);
     println!(rt; ": {} {}", seen.number, seen.name())
 }
 
 // How often each number is the answer, of all places in a page.
 fn tally(rt: &impl Print, name: &str, page: &[u8], old: usize, new: &[u8]) -> io::Result<()> {
-    let counts = read_everywhere(page, old, new);
+    let counts = count_everywhere(page, old, new);
     print!(rt; "{name}: 17 {} times", counts[0])?;
     for (number, count) in NUMBERS.iter().zip(counts.iter()).skip(1) {
         print!(rt; ", {number} {count}")?;

@@ -5,6 +5,7 @@
 ghost use Rattle.std.specs.Prelude.{ℕ, ◌≤◌, ◌<◌, length, slice_index_or, IfSome};
 
 use heap::Heap;
+use std::alloc::{AllocError, Global};
 
 fn sevens() -> Heap {
     Heap {
@@ -42,6 +43,11 @@ pub struct Seen {
 }
 
 impl Seen {
+    // Is this number the answer, and all the same just if that is a refusal?
+    fn is_sound(&self, number: u64) -> bool {
+        self.number == number && self.same == (number != 0)
+    }
+
     // Where the answer stands among the numbers that are counted, if all is the same just if it is a refusal.
     fn place(&self) -> Option<usize>
         ensures { IfSome result (λ k. k < 5) }
@@ -92,11 +98,13 @@ pub fn find(s: &[u8], part: &[u8]) -> Option<usize>
     None
 }
 
-// How many bytes a page may have, with those that are put into it. A longer one isn't read: the empty text is, which is no page.
+// How many bytes a page may have for `read_damaged_limited`, with those that are put into it. A
+// longer one isn't read: the empty text is, which is no page.
 const LONGEST: usize = 1024;
 
-// What is answered to a page with up to `old` bytes from `at` on replaced by `new`.
-pub fn read_damaged(page: &[u8], at: usize, old: usize, new: &[u8]) -> Seen
+// What is answered to a page with up to `old` bytes from `at` on replaced by `new`, where the two
+// are not longer than `LONGEST`; else what is answered to the empty text.
+pub fn read_damaged_limited(page: &[u8], at: usize, old: usize, new: &[u8]) -> Seen
     requires { at ≤ length page.now }
 {
     if LONGEST < page.len() || LONGEST - page.len() < new.len() {
@@ -116,15 +124,95 @@ pub fn read_damaged(page: &[u8], at: usize, old: usize, new: &[u8]) -> Seen
 pub const NUMBERS: [u64; 5] = [17, 1, 6, 5, 0];
 
 // How often each of them is the answer where up to `old` bytes are replaced by `new`, of all places in a page; where it is, all is the same just if that is a refusal.
-pub fn read_everywhere(page: &[u8], old: usize, new: &[u8]) -> [usize; 5]
+pub fn count_everywhere(page: &[u8], old: usize, new: &[u8]) -> [usize; 5]
     ensures { (k : ℕ) → slice_index_or result k 0 ≤ length page.now }
 {
     let mut counts = [0; 5];
     for at in 0..page.len() {
-        let seen = read_damaged(page, at, old, new);
+        let seen = read_damaged_limited(page, at, old, new);
         if let Some(k) = seen.place() {
             counts[k] += 1;
         }
     }
     counts
+}
+
+// What is answered to a page with up to `old` bytes from `at` on replaced by `new`, of any length.
+pub fn read_damaged(
+    alloc: Global,
+    page: &[u8],
+    at: usize,
+    old: usize,
+    new: &[u8],
+) -> Result<Seen, AllocError>
+    requires { at ≤ length page.now }
+{
+    let mut text = Vec::new(alloc);
+    text.extend_from_slice(&page[..at])?;
+    text.extend_from_slice(new)?;
+    text.extend_from_slice(page.get(at.saturating_add(old)..).unwrap_or(&[]))?;
+    Ok(read_page(&text))
+}
+
+// What is answered where up to `old` bytes are replaced by `new`, for each place in a page.
+pub fn read_everywhere(
+    alloc: Global,
+    page: &[u8],
+    old: usize,
+    new: &[u8],
+) -> Result<Vec<Seen>, AllocError> {
+    let mut all = Vec::new(alloc);
+    for at in 0..page.len() {
+        all.push(read_damaged(alloc, page, at, old, new)?)?;
+    }
+    Ok(all)
+}
+
+// How many of them are this number.
+pub fn count(all: &[Seen], number: u64) -> usize
+    ensures { result ≤ length all.now }
+{
+    all.iter().filter(|s| s.is_sound(number)).count()
+}
+
+#[cfg(test)]
+mod tests {
+    use super::*;
+    use std::io;
+
+    // A page of one object with 512 bytes of data, without them.
+    const LARGE: &[u8] = b"\
+tag,since_gc,reclaim_at,live_bytes,slots,free,quarantine,sealed,retired\n\
+1,0,4096,512,1,0,0,0,0\n\
+generation,kind,type,start,writes64,data\n\
+1,2,0,0,0,\n\
+free\nquarantine\nsealed\nretired\n";
+
+    const EMPTY: &[u8] = b"\
+tag,since_gc,reclaim_at,live_bytes,slots,free,quarantine,sealed,retired\n\
+1,0,4096,0,0,0,0,0,0\n\
+generation,kind,type,start,writes64,data\n\
+free\nquarantine\nsealed\nretired\n";
+
+    #[test]
+    fn reads_pages_of_any_length(rt: HostRuntime) -> io::Result<()> {
+        let data = [b'0'; 1024];
+        let at = find(LARGE, b"\nfree").unwrap_or(0);
+        let seen = read_damaged(rt.alloc(), LARGE, at, 0, &data)?;
+        assert!(rt; (seen.number, seen.same) == (6, true));
+        let seen = read_damaged_limited(LARGE, at, 0, &data);
+        assert!(rt; (seen.number, seen.same) == (17, true));
+        Ok(())
+    }
+
+    // Read are tag 1, since_gc 1, reclaim_at 4196 and live_bytes 1. No reclaim_at are 1096, 4016 (too
+    // small) and 4091 (odd). At the other 158 of 165 places the text is no page.
+    #[test]
+    fn counts_each_answer(rt: HostRuntime) -> io::Result<()> {
+        let all = read_everywhere(rt.alloc(), EMPTY, 1, b"1")?;
+        for (number, times) in [(17, 158), (1, 3), (6, 0), (5, 0), (0, 4)] {
+            assert_eq!(rt; count(&all, number), times, "{number}");
+        }
+        Ok(())
+    }
 }

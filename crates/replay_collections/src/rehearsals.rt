@@ -1,5 +1,5 @@
 // The command of the program `replay` that rehearses collection thresholds, in memory of its own: the heap of the script stays as it is.
-use answers::{put_page, put_told};
+use answers::{put_page_front, put_told};
 use fields::Fields;
 use heap::Heap;
 use protocol::{Fault, WORD};
@@ -64,7 +64,7 @@ pub fn answer(rt: &impl Print, line: &mut Fields, t: &Table) -> Result<(), Fault
     let a = rehearse(slots, pool, t, &text, &thresholds, &mut out);
     put_told(rt, a, |length, _| match length {
         0 => print!(rt; " -"),
-        _ => put_page(rt, &mut out, length),
+        _ => put_page_front(rt, &mut out, length),
     })?;
     Ok(())
 }

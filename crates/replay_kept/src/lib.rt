@@ -1,7 +1,7 @@
 // What the program `replay` keeps from line to line: a heap, and the type table that lines make; and how a call is lent a heap and scratch.
 #![tactic(auto)]
 
-ghost use Rattle.std.specs.Prelude.{◌≡◌, [], length, true, IfOk};
+ghost use Rattle.std.specs.Prelude.{◌≡◌, [], length, replicate, true, IfOk};
 ghost use Rattle.heap.specs.Lent.{header_of};
 ghost use Rattle.heap.specs.Calls.{new as new_heap};
 
@@ -61,6 +61,27 @@ impl Kept {
     }
 }
 
+/// Scratch for a call, in one value. It holds 7 everywhere, since no call may rely on what it finds
+/// there.
+// Kept: arrays, as in `ask`. The commands have two arrays where they make a call: a `Scratch` that a
+// function answers is copied.
+#[derive(Clone, Copy)]
+pub struct Scratch {
+    pub marks: [u8; 8192],
+    pub work: [u64; 8192],
+}
+
+impl Scratch {
+    pub fn new() -> Scratch
+        ensures { (result.marks ≡ replicate 8192 7) × (result.work ≡ replicate 8192 7) }
+    {
+        Scratch {
+            marks: [7; 8192],
+            work: [7; 8192],
+        }
+    }
+}
+
 /// What a call answers that is lent the heap and scratch. The scratch holds 7 everywhere, since no call may rely on what it finds there.
 // Kept: arrays, here and where a call of the front door is lent room for its answer: they last for one call and never change their length. With `vec![in alloc; 7; 8192]?` in their place
 // `ask` and all that go through it would answer a `Result` for memory that can't run out now. A function that answers both would have them copied.
@@ -101,4 +122,15 @@ pub fn settle<F: FnOnce(Heap, &mut [u32], &mut [u64], &mut [u8], &mut [u8], &mut
     );
     kept.heap = done.heap;
     done.answer
+}
+
+#[cfg(test)]
+mod tests {
+    use super::*;
+
+    #[test]
+    fn holds_sevens(rt: HostRuntime) {
+        let scratch = Scratch::new();
+        assert!(rt; scratch.marks == [7; 8192] && scratch.work == [7; 8192]);
+    }
 }

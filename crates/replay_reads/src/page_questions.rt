@@ -1,5 +1,5 @@
 // The commands of the program `replay` that write the page of a heap, or tell how long it is.
-use answers::{put_answer, put_page, put_told};
+use answers::{put_answer, put_page_front, put_told};
 use fields::Fields;
 use protocol::{Fault, NoCommand};
 use refusal::Answer;
@@ -44,7 +44,7 @@ fn show_page(rt: &impl Print, kept: &Kept, planar: bool) -> io::Result<()> {
     let a = ask(kept, |heap, narrow, wide, pool, marks, work| {
         page::write_page(heap, narrow, wide, pool, planar, &mut text, marks, work)
     });
-    put_told(rt, a, |length, _| put_page(rt, &mut text, length))
+    put_told(rt, a, |length, _| put_page_front(rt, &mut text, length))
 }
 
 fn page_length(kept: &Kept, planar: bool) -> Answer {

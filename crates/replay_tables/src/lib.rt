@@ -5,7 +5,7 @@ ghost use Rattle.std.specs.Prelude.{◌≡◌, ◌≢◌, IfErr};
 ghost use Rattle.protocol.specs.declared.Fault.TheVariants.{Bad};
 ghost use Rattle.replay_tables.specs.declared.Command.TheVariants.{Write};
 
-use answers::{front, put_page, put_told};
+use answers::{front, put_page_front, put_told};
 use fields::Fields;
 use protocol::{Fault, NoCommand};
 use replay_kept::table::{MOST_BYTES, MOST_CONSTS, MOST_FIELDS, MOST_TYPES, Table};
@@ -87,7 +87,7 @@ fn read(rt: &impl Print, line: &mut Fields, table: &mut Table) -> Result<(), Fau
 fn write(rt: &impl Print, names: &[u8], t: &Table) -> io::Result<()> {
     let mut out = [7u8; 262144];
     let a = table_text::write_table(&t.types, &t.fields, &t.consts, &t.bytes, names, &mut out);
-    put_told(rt, a, |length, _| put_page(rt, &mut out, length))
+    put_told(rt, a, |length, _| put_page_front(rt, &mut out, length))
 }
 
 /// Runs a line. What follows the command is the text, or the names: it can always be read. To write the table leaves it as it is.
