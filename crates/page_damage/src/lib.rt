@@ -205,8 +205,8 @@ free\nquarantine\nsealed\nretired\n";
         Ok(())
     }
 
-    // Read are tag 1, since_gc 1, reclaim_at 4196 and live_bytes 1. No reclaim_at are 1096, 4016 (too
-    // small) and 4091 (odd). At the other 158 of 165 places the text is no page.
+    // Read are tag 1, since_gc 1, reclaim_at 4196 and live_bytes 1. No reclaim_at are 1096 and 4016
+    // (too small) and 4091 (odd). At the other 158 of 165 places the text is no page.
     #[test]
     fn counts_each_answer(rt: HostRuntime) -> io::Result<()> {
         let all = read_everywhere(rt.alloc(), EMPTY, 1, b"1")?;

@@ -63,8 +63,8 @@ impl Kept {
 
 /// Scratch for a call, in one value. It holds 7 everywhere, since no call may rely on what it finds
 /// there.
-// Kept: arrays, as in `ask`. The commands have two arrays where they make a call: a `Scratch` that a
-// function answers is copied.
+// Kept: arrays, as in `ask`. The commands have two arrays where they make a call: a `Scratch` that
+// a function answers is copied.
 #[derive(Clone, Copy)]
 pub struct Scratch {
     pub marks: [u8; 8192],
